@@ -139,6 +139,7 @@ mistakes() {
         [mistake-5]=compares-by-name
         [dead-objects]="sweep-(forgets-locals|forgets-the-report|frees-[a-z]+|tells-[a-z-]+)|freed-objects-count-for-full"
         [a-week-of-reports]="a-share-of-[a-z-]+|the-share-[a-z-]+|the-quotes-objects-are-counted|everyones-objects-are-counted|a-freed-row-is-still-counted|full-comes-before-the-share|a-task-without-frames-holds-nothing|new-asks-for-no-share"
+        [taken-back]="a-(define|record)-isnt-remembered|(classes|entries|ties)-arent-cut|all-is-taken-back|a-taking-back-closes|nothing-to-take-back-is-accepted|an-idle-step-closes|a-run-of-nothing-closes|a-refused-(load|start)-closes|a-record-of-what-is-there-[a-z-]+|(start|drop|sweep|a-run)-doesnt-close|drop-[a-z-]+-doesnt-close|a-(sweep-that-frees-nothing|step-that-ran)-doesnt-close"
         [age-bands]="less-than-[a-z-]+|jumps-from-the-instruction|offsets-from-the-instruction|unmapped-is-unverified|unset-for-int"
         [instalments]="ifeq-[a-z-]+|a-jump-to-itself-is-stuck|sweep-forgets-unset-locals|a-set-local-stays-set"
         [rates]="quotients-are-[a-z]+|divide[sd]-[a-z-]+|the-least-by-[a-z-]+|zero-divisor-is-[a-z]+|a-refused-division-[a-z-]+|products-[a-z-]+|rates-in-version-one"

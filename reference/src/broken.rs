@@ -1,8 +1,8 @@
 //! Word 1: are the tables a store at all?
 
 use crate::classes::Classes;
-use crate::store::{cell, frame_base, Store, Value};
-use crate::store::{FRAME_ROW, FREE, LENGTHS, LIMITS, LOADERS, LOCALS, OBJECT_ROW, OPERANDS, REPORT, SHARE, TASKS};
+use crate::store::{cell, count, frame_base, Store, Value};
+use crate::store::{FRAME_ROW, FREE, LENGTHS, LIMITS, LOADERS, LOCALS, MOST_LOADS, OBJECT_ROW, OPERANDS, REPORT, SHARE, TASKS};
 
 /// Do the tables have the published lengths? All that boot checks.
 pub fn lengths_fit(store: &Store) -> bool {
@@ -18,13 +18,34 @@ pub fn unbroken(store: &Store) -> Option<Classes> {
     if !lengths_fit(store) || !counts_fit(store) {
         return None;
     }
+    let classes = fitting(store)?;
+    trace_fits(store).then_some(classes)
+}
+
+/// Paper 10: "A stored trace of loads counts as broken if taking them back in turn would need rows that aren't there or leave a broken store."
+/// The latest is taken back first, each on what the one before left.
+fn trace_fits(store: &Store) -> bool {
+    let levels = store.levels();
+    if levels.is_empty() {
+        return true;
+    }
+    let mut left = store.clone();
+    levels.into_iter().rev().all(|level| {
+        let is_there = level.iter().zip(left.level()).all(|(&rows, there)| rows <= there);
+        left.cut(level);
+        is_there && fitting(&left).is_some()
+    })
+}
+
+/// The classes of a store whose lengths and counts fit and that isn't broken, the trace of loads aside.
+fn fitting(store: &Store) -> Option<Classes> {
     let classes = Classes::read(store)?;
     let rows_fit = numbers_fit(store) && rows_fit(store, &classes);
     (rows_fit && objects_fit(store, &classes) && share_fits(store) && frames_fit(store, &classes)).then_some(classes)
 }
 
 fn counts_fit(store: &Store) -> bool {
-    store.counts.iter().zip(LIMITS).all(|(&count, limit)| count <= limit)
+    store.counts.iter().zip(LIMITS).all(|(&count, limit)| count <= limit) && store.count(count::LOADS) <= MOST_LOADS
 }
 
 /// Do the numbers of both tables' used rows together count from 0 on, and rise along each table? Then each next number stands at the head of

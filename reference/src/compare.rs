@@ -25,7 +25,8 @@ use crate::gen::rates;
 use crate::gen::shares::{shared, shares};
 use crate::gen::stuck::stuck;
 use crate::gen::swept::swept;
-use crate::gen::{cases, counts, javas, large, listed, mapped, passed, Call, Trial, CALLS};
+use crate::gen::taken::{taken_back, taking};
+use crate::gen::{cases, counts, javas, large, listed, mapped, passed, traces, Call, Trial, CALLS};
 use crate::host::{self, expected, CELLS};
 use crate::placed::misplaced;
 use crate::sharing::keeps_room;
@@ -208,6 +209,7 @@ impl Comparison {
         self.play(&chains(seed, 30), &format!("chains {seed}"));
         self.play(&graphs(seed, 50), &format!("graphs {seed}"));
         self.play(&shared(seed, 30), &format!("shared {seed}"));
+        self.play(&taking(seed, 30), &format!("taking {seed}"));
         (STORES * seed..STORES * (seed + 1)).for_each(|seed| self.damage(seed));
         for seed in CLASHES * seed..CLASHES * (seed + 1) {
             let (store, load) = clash(seed);
@@ -219,7 +221,7 @@ impl Comparison {
 
     /// What needs no seed.
     fn fixed(&mut self) {
-        for (at, trial) in cases::cases().iter().chain(&swept()).chain(&loops()).chain(&rates::rates()).chain(&hidden()).chain(&listed::listed()).chain(&shares()).enumerate() {
+        for (at, trial) in cases::cases().iter().chain(&swept()).chain(&loops()).chain(&rates::rates()).chain(&hidden()).chain(&listed::listed()).chain(&shares()).chain(&taken_back()).enumerate() {
             self.play(trial, &format!("case {at}"));
         }
         for seed in 0..4 {
@@ -247,6 +249,9 @@ impl Comparison {
         for (what, store, load, _) in clashes::choices() {
             self.call(&store, &load, CELLS, what);
         }
+        for (what, store, _) in traces::cases() {
+            [Call::TakeBack, Call::Step, Call::Sweep].iter().for_each(|call| drop(self.call(&store, call, CELLS, what)));
+        }
         self.large();
     }
 
@@ -267,9 +272,13 @@ impl Comparison {
         let swept = held.map(|held| (large::objects(held), Call::Sweep));
         let made = [false, true].map(|freed| (large::making(freed), run.clone()));
         let looping = [large::Round::Ints, large::Round::Field].map(|round| (large::looping(round), run.clone()));
-        let empty = Trial::ready([1]).store;
-        let long = large::long_files().map(|(_, file)| (empty.clone(), Call::Define { loader: 1, file }));
-        for (at, (store, call)) in calls.iter().chain(&reasons).chain(&swept).chain(&made).chain(&looping).chain(&long).enumerate() {
+        let long = large::long_files().map(|(_, file)| (large::empty(), Call::Define { loader: 1, file }));
+        let (open, open_full) = (large::remembering(), large::full_remembering(large::Repeated::NullPop));
+        let taken = [
+            (open.clone(), large::usual_define()), (open.clone(), large::usual_record()), (open.clone(), Call::Step), (open, Call::TakeBack),
+            (open_full.clone(), Call::Step), (open_full.clone(), Call::Sweep), (open_full, Call::TakeBack),
+        ];
+        for (at, (store, call)) in calls.iter().chain(&reasons).chain(&swept).chain(&made).chain(&looping).chain(&long).chain(&taken).enumerate() {
             self.call(store, call, CELLS, &format!("large store {at}"));
         }
     }
@@ -281,6 +290,7 @@ impl Comparison {
             self.call(store, &Call::Step, CELLS, label);
             self.call(store, &record, CELLS, label);
             self.call(store, &Call::Sweep, CELLS, label);
+            self.call(store, &Call::TakeBack, CELLS, label);
         });
     }
 

@@ -43,6 +43,7 @@ fn call(row: &[u32], files: &[u8]) -> Option<Call> {
         7 => Call::Sweep,
         8 => Call::TryDefine { loader: row[1], file: file()?, cells },
         9 => Call::TryRecord { loader: row[1], name: row[2], class: row[3], cells },
+        10 => Call::TakeBack,
         _ => return None,
     })
 }

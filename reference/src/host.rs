@@ -101,6 +101,7 @@ mod library {
         tariff_sweep();
         tariff_try_define(loader: u32, file: *const u8, file_length: usize, list: *mut u16, list_length: usize);
         tariff_try_record(loader: u32, name: u32, class: u32, list: *mut u16, list_length: usize);
+        tariff_take_back();
     }
 
     /// Calls a function with the tables of a store, these arguments and an answer table.
@@ -138,6 +139,7 @@ mod library {
                 Call::Run { n } => lend!(tariff_run, store, answer, n),
                 Call::Drop { task } => lend!(tariff_drop, store, answer, task),
                 Call::Sweep => lend!(tariff_sweep, store, answer),
+                Call::TakeBack => lend!(tariff_take_back, store, answer),
                 Call::TryDefine { loader, ref file, .. } => {
                     lend!(tariff_try_define, store, answer, loader, file.as_ptr(), file.len(), list.as_mut_ptr(), list.len())
                 }

@@ -1,4 +1,4 @@
-//! The tariff class machine, written a second time: boot, define, record, start, step, run, drop, sweep and the tries of loads
+//! The tariff class machine, written a second time: boot, define, record, start, step, run, drop, sweep, the tries of loads and their taking back
 //! over the eight lent tables that docs/STORE.md publishes, the desk's check, boxscript and drivelist.
 //!
 //! It shares no code with the proved machine. The two are compared call by call and cell by cell.
@@ -34,7 +34,7 @@ pub mod walks;
 
 pub use answer::{Answer, Refusal, Reply};
 pub use broken::broken;
-pub use load::{boot, define, record};
+pub use load::{boot, define, record, take_back};
 pub use placed::misplaced;
 pub use step::step;
 pub use store::Store;

@@ -1,4 +1,4 @@
-//! boot, define and record.
+//! boot, define, record and the taking back of such loads.
 
 use crate::agree::{agrees, same_tie, tie, Added};
 use crate::answer::{denied, word, Refusal, Reply};
@@ -15,6 +15,7 @@ pub fn boot(store: &mut Store) -> Reply {
     store.counts[..count::OWNERS].copy_from_slice(&[1, 0, 1, 0, 0, 0, 0, 0]);
     store.classes[..ROW].copy_from_slice(&[0, 0, 0]);
     store.cache[..ROW].copy_from_slice(&[0, OBJECT, 0]);
+    store.close();
     Reply::Accepted
 }
 
@@ -36,8 +37,10 @@ pub fn define_by(store: &mut Store, loader: u32, bytes: &[u8], judge: impl Fn(Fi
     if !plan.agrees(store) {
         return denied(word::CLASH);
     }
+    let before = store.level();
     let class = store.add_class(loader as u16, bytes);
     plan.added().write(store);
+    store.remember(before);
     Reply::Defined(class as u8)
 }
 
@@ -165,7 +168,9 @@ pub fn record(store: &mut Store, loader: u32, name: u32, class: u32) -> Reply {
         Ok(None) => Reply::Accepted,
         Ok(Some(plan)) if !plan.agrees(store) => denied(word::CLASH),
         Ok(Some(plan)) => {
+            let before = store.level();
             plan.added().write(store);
+            store.remember(before);
             Reply::Accepted
         }
     }
@@ -195,4 +200,18 @@ pub fn plan_record(store: &Store, loader: u32, name: u32, class: u32, list: usiz
         return refused(word::FULL);
     }
     Ok(Some(plan))
+}
+
+/// Undoes the latest load that changed the store, as long as nothing has closed it and no 32 later ones have pushed it out.
+pub fn take_back(store: &mut Store) -> Reply {
+    if unbroken(store).is_none() {
+        return denied(word::BROKEN);
+    }
+    let mut levels = store.levels();
+    let Some(level) = levels.pop() else {
+        return denied(word::TOO_LATE);
+    };
+    store.cut(level);
+    store.set_levels(&levels);
+    Reply::Accepted
 }

@@ -31,7 +31,14 @@ pub fn take_step(store: &mut Store, classes: &Classes) -> Answer {
     let base = frame_base(task, store.frame_count(task) - 1);
     let operands = store.frames[base + cell::OPERANDS] as usize;
     let turn = Turn { store, classes, task, base, operands, next };
-    turn.execute(instruction).unwrap_or_else(Answer::Refused)
+    match turn.execute(instruction) {
+        Ok(answer) => {
+            // It ran or finished: objects may have moved.
+            store.close();
+            answer
+        }
+        Err(refusal) => Answer::Refused(refusal),
+    }
 }
 
 /// The instruction of a task's top frame and the next point, if it can be read.

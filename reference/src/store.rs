@@ -18,12 +18,16 @@ pub mod count {
     pub const TIE_NUMBERS: usize = 264;
     /// The number of subtype row 0; those of the other subtype rows follow.
     pub const SUBTYPE_NUMBERS: usize = 520;
+    /// How many loads can be taken back.
+    pub const LOADS: usize = 776;
+    /// The level of the oldest of these loads; those of the later ones follow.
+    pub const LEVELS: usize = 777;
 }
 
 /// The limit of each count.
 pub const LIMITS: [u16; 8] = [64, 16_384, 256, 256, 256, 256, 32, 32];
 /// The length of each table, in the order of `Store`.
-pub const LENGTHS: [usize; 8] = [776, 192, 16_384, 768, 768, 768, 8_448, 3_328];
+pub const LENGTHS: [usize; 8] = [937, 192, 16_384, 768, 768, 768, 8_448, 3_328];
 /// The tables' names, and the largest number that a cell holds.
 pub const TABLES: [(&str, u32); 8] = [
     ("counts", 0xFFFF), ("classes", 0xFFFF), ("kept", 0xFF), ("cache", 0xFFFF), ("ties", 0xFFFF), ("subtypes", 0xFFFF),
@@ -36,6 +40,10 @@ pub const MOST_ROWS: usize = (LIMITS[count::TIES] + LIMITS[count::SUBTYPES]) as 
 pub const MOST_OBJECTS: usize = LIMITS[count::OBJECTS] as usize;
 /// The most objects in use that the report may have made (paper 8).
 pub const SHARE: usize = 192;
+/// The most loads that can be taken back (paper 10).
+pub const MOST_LOADS: usize = 32;
+/// What is told of a load that can be taken back: the counts of classes, kept bytes, cache entries, ties and subtype constraints before it.
+pub type Level = [u16; LEVEL_ROW];
 /// The owner of a free object row. An object's is 1 more than the task that made it.
 pub const FREE: u16 = 0;
 
@@ -54,6 +62,7 @@ pub const OBJECT: u16 = 2;
 pub const ROW: usize = 3;
 pub const OBJECT_ROW: usize = 33;
 pub const FRAME_ROW: usize = 52;
+pub const LEVEL_ROW: usize = 5;
 
 /// Cells within a frame's row.
 pub mod cell {
@@ -276,6 +285,42 @@ impl Store {
     /// The numbers of the used subtype rows.
     pub fn subtype_numbers(&self) -> &[u16] {
         &self.counts[count::SUBTYPE_NUMBERS..][..self.count(count::SUBTYPES)]
+    }
+
+    /// The counts that a load raises, as they are now.
+    pub fn level(&self) -> Level {
+        std::array::from_fn(|which| self.counts[which])
+    }
+
+    /// The levels of the loads that can be taken back, the oldest first.
+    pub fn levels(&self) -> Vec<Level> {
+        let rows = self.counts[count::LEVELS..].chunks_exact(LEVEL_ROW).take(self.count(count::LOADS));
+        rows.map(|row| std::array::from_fn(|which| row[which])).collect()
+    }
+
+    /// Writes the levels of the loads that can be taken back, the oldest first: 32 at most.
+    pub fn set_levels(&mut self, levels: &[Level]) {
+        let rows = self.counts[count::LEVELS..].chunks_exact_mut(LEVEL_ROW);
+        rows.zip(levels).for_each(|(row, level)| row.copy_from_slice(level));
+        self.counts[count::LOADS] = levels.len() as u16;
+    }
+
+    /// A load that changed the store, which had this level before it, can be taken back; of 33 such loads the oldest no longer can.
+    pub fn remember(&mut self, level: Level) {
+        let mut levels = self.levels();
+        levels.push(level);
+        let lost = levels.len().saturating_sub(MOST_LOADS);
+        self.set_levels(&levels[lost..]);
+    }
+
+    /// No load before now can be taken back.
+    pub fn close(&mut self) {
+        self.counts[count::LOADS] = 0;
+    }
+
+    /// Lowers the counts to a level: the rows past them are there no more. Objects and frames stay.
+    pub fn cut(&mut self, level: Level) {
+        self.counts[..LEVEL_ROW].copy_from_slice(&level);
     }
 
     /// The class that the cache holds for a request; of two rows the lower.

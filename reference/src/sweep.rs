@@ -17,6 +17,7 @@ pub fn sweep(store: &mut Store) -> Reply {
             freed += 1;
         }
     }
+    store.close();
     Reply::Swept(freed)
 }
 

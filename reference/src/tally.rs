@@ -17,7 +17,7 @@ use crate::store::{cell, frame_base, Store, FREE};
 use crate::walks::reasons;
 
 /// The words that a call is given on lists from a boot; 0 is accepted.
-pub const FROM_A_BOOT: [(&str, &[usize]); 10] = [
+pub const FROM_A_BOOT: [(&str, &[usize]); 11] = [
     ("boot", &[0]),
     ("define", &[0, 2, 3, 4, 5, 6, 9, 10, 15]),
     ("record", &[0, 3, 4, 9, 10, 13]),
@@ -28,10 +28,11 @@ pub const FROM_A_BOOT: [(&str, &[usize]); 10] = [
     ("sweep", &[0]),
     ("try define", &[0, 2, 3, 4, 5, 6, 9, 10, 15, 16]),
     ("try record", &[0, 3, 4, 9, 10, 13, 16]),
+    ("take back", &[0, 19]),
 ];
 
 /// The words that only damage brings.
-pub const ONLY_DAMAGE: [(&str, &[usize]); 10] = [
+pub const ONLY_DAMAGE: [(&str, &[usize]); 11] = [
     ("boot", &[1]),
     ("define", &[1]),
     ("record", &[1]),
@@ -42,6 +43,7 @@ pub const ONLY_DAMAGE: [(&str, &[usize]); 10] = [
     ("sweep", &[1]),
     ("try define", &[1]),
     ("try record", &[1]),
+    ("take back", &[1]),
 ];
 
 /// How runs end on lists from a boot; damage brings word 14 too.

@@ -47,6 +47,7 @@ pub fn start(store: &mut Store, task: u32, loader: u32, name: u16, method: u16, 
         return denied(word::FULL);
     };
     store.enter(task, owner, place, this, &[Value::Int(int)]);
+    store.close();
     Reply::Accepted
 }
 
@@ -79,5 +80,6 @@ pub fn drop_task(store: &mut Store, task: u32) -> Reply {
         return denied(word::UNKNOWN);
     }
     store.counts[count::FRAMES + task as usize] = 0;
+    store.close();
     Reply::Accepted
 }

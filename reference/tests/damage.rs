@@ -13,7 +13,7 @@ use reference::{broken, misplaced, Refusal};
 const SEEDS: u64 = 10_000;
 
 /// The words of each call on damaged stores that this test meets; 0 is accepted.
-const ON_DAMAGE: [(&str, &[usize]); 10] = [
+const ON_DAMAGE: [(&str, &[usize]); 11] = [
     ("boot", &[0]),
     ("define", &[0, 4, 5, 6, 9, 10, 15]),
     ("record", &[0, 3, 4, 9, 10, 13]),
@@ -24,6 +24,7 @@ const ON_DAMAGE: [(&str, &[usize]); 10] = [
     ("sweep", &[0]),
     ("try define", &[0, 4, 5, 6, 9, 10, 15, 16]),
     ("try record", &[0, 3, 4, 9, 10, 13, 16]),
+    ("take back", &[0, 19]),
 ];
 
 fn try_call(before: &Store, call: &Call, label: &str, tally: &mut Tally) -> Store {

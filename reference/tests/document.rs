@@ -118,14 +118,16 @@ fn p10_sixteen_operands() {
 }
 
 #[test]
-fn boot_writes_counts_class_0_and_cache_row_0() {
+fn boot_writes_counts_class_0_and_cache_row_0_and_closes() {
     let mut store = garbage();
     let before = store.clone();
     assert_eq!(reference::boot(&mut store), Reply::Accepted);
     assert_eq!(store.counts[..8], [1, 0, 1, 0, 0, 0, 0, 0]);
+    assert_eq!(store.counts[776], 0);
     assert_eq!(store.classes[..3], [0, 0, 0]);
     assert_eq!(store.cache[..3], [0, 2, 0]);
     store.counts[..8].copy_from_slice(&before.counts[..8]);
+    store.counts[776] = before.counts[776];
     store.classes[..3].copy_from_slice(&before.classes[..3]);
     store.cache[..3].copy_from_slice(&before.cache[..3]);
     assert_eq!(store, before);

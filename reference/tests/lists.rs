@@ -14,6 +14,7 @@ use reference::gen::rates::rates;
 use reference::gen::rng::Rng;
 use reference::gen::shares::{shared, shares};
 use reference::gen::swept::swept;
+use reference::gen::taken::{taken_back, taking};
 use reference::gen::{cases, Call, Trial};
 use reference::sharing::keeps_room;
 use reference::store::Store;
@@ -127,6 +128,7 @@ fn random_lists() {
         let trial = graphs(seed, 50);
         watch(&trial, &format!("graphs {seed}"), &mut tally);
         amid_noise(seed, &trial);
+        watch(&taking(seed, 30), &format!("taking {seed}"), &mut tally);
         let trial = shared(seed, 30);
         watch(&trial, &format!("shared {seed}"), &mut tally);
         amid_noise(seed, &trial);
@@ -135,7 +137,7 @@ fn random_lists() {
     assert_eq!(tally.unswept(), Vec::<&str>::new(), "what sweeps never had");
     assert_eq!(tally.hiding.unmet(), Vec::<&str>::new(), "what accesses never met");
     assert_eq!(tally.sharing.unmet(), Vec::<&str>::new(), "what starts and news never met");
-    for trial in cases::cases().iter().chain(&swept()).chain(&loops()).chain(&rates()).chain(&hidden()).chain(&listed()).chain(&shares()) {
+    for trial in cases::cases().iter().chain(&swept()).chain(&loops()).chain(&rates()).chain(&hidden()).chain(&listed()).chain(&shares()).chain(&taken_back()) {
         watch(trial, "a case", &mut tally);
     }
     for (name, limit) in LIMITS {

@@ -130,10 +130,11 @@ fn a_broken_store_is_left() {
     assert_eq!(reference::sweep(&mut zeros), Reply::Swept(0), "zeros are a store without objects");
 }
 
-/// The owners after a sweep are those of the objects that are reached, and no other cell changes.
+/// The owners after a sweep are those of the objects that are reached, no load can be taken back, and no other cell changes.
 fn plainly(store: &Store, label: &str) -> usize {
     let (all, kept) = (store.objects_in_use().count(), reached(store, Without::Nothing));
     let mut wanted = store.clone();
+    wanted.close();
     for (object, owner) in (0..).zip(wanted.owners_mut()) {
         *owner = if kept.contains(&object) { *owner } else { FREE };
     }

@@ -14,6 +14,7 @@ use reference::gen::damage::{damaged, probes};
 use reference::gen::list::list;
 use reference::gen::numbers::{renumber, WRONG};
 use reference::gen::rng::Rng;
+use reference::gen::traces::closed;
 use reference::gen::{large, Call, Trial};
 use reference::reason::{chain, chain_by};
 use reference::store::{count, Store, INT};
@@ -308,7 +309,7 @@ fn wrong_numbers_are_broken() {
     let mut seen = [[0; 2]; WRONG.len()];
     for seed in 0..4_000 {
         let mut rng = Rng::new(seed);
-        let (mut store, _) = clash(seed);
+        let mut store = closed(&clash(seed).0);
         renumber(&mut rng, &mut store);
         assert!(!broken(&store), "store {seed} in another order");
         if store.constraint_count() == 0 {
@@ -325,6 +326,6 @@ fn wrong_numbers_are_broken() {
     assert_eq!(store.constraint_count(), 512);
     store.counts[count::TIES] = 0;
     store.counts[count::SUBTYPES] = 0;
-    store.counts[count::TIE_NUMBERS..].fill(u16::MAX);
+    store.counts[count::TIE_NUMBERS..count::LOADS].fill(u16::MAX);
     assert!(!broken(&store), "the numbers of rows past the counts say nothing");
 }

@@ -100,7 +100,7 @@ const MOST_ROUNDS: i64 = 1_000;
 type Statement = (&'static str, &'static str, fn(&mut Reader) -> Parsed<What>);
 
 /// Every call has its words here.
-const STATEMENTS: [Statement; 10] = [
+const STATEMENTS: [Statement; 11] = [
     ("boot", "boot", |_| Ok(What::Call(Call::Boot))),
     ("loader", "loader 1 defines Discount, or loader 2 records Discount as 3", |reader| reader.loader()),
     ("quote", "quote starts 1 Policy.rate 7", |reader| reader.starts(0)),
@@ -110,6 +110,7 @@ const STATEMENTS: [Statement; 10] = [
     ("run", "run 100", |reader| reader.run()),
     ("drop", "drop quote", |reader| reader.drop()),
     ("sweep", "sweep", |_| Ok(What::Call(Call::Sweep))),
+    ("take", "take back", |reader| reader.at.keyword("back").map(|_| What::Call(Call::TakeBack))),
     ("damage", "damage counts 5 300", |reader| reader.damage()),
 ];
 

@@ -28,7 +28,11 @@ impl Row {
 /// What changed, a line a row: + new, ~ changed, - gone. Of tables that are no store, the cells that changed.
 pub fn changes(before: &Store, after: &Store, names: &Names) -> Vec<String> {
     match (unbroken(before), unbroken(after)) {
-        (Some(then), Some(now)) => row_changes(&rows(before, &then, names), &rows(after, &now, names)),
+        (Some(then), Some(now)) => {
+            let mut lines = row_changes(&rows(before, &then, names), &rows(after, &now, names));
+            lines.extend(load_changes(before, after));
+            lines
+        }
         (then, now) => {
             let mut lines = cell_changes(before, after);
             match (then.is_some(), now.is_some()) {
@@ -66,6 +70,16 @@ fn row_changes(before: &[Row], after: &[Row]) -> Vec<String> {
         _ => format!("- {} {}", rows[0].kind, rows[0].number),
     }));
     lines
+}
+
+/// How many loads can be taken back, where that changed, or the oldest was pushed out.
+fn load_changes(before: &Store, after: &Store) -> Option<String> {
+    let (then, now) = (before.levels(), after.levels());
+    match (then.len(), now.len()) {
+        _ if then == now => None,
+        (then, now) if then == now => Some(format!("~ loads that can be taken back: {now}, and the oldest no longer")),
+        (then, now) => Some(format!("~ loads that can be taken back: {then}, now {now}")),
+    }
 }
 
 fn cell_changes(before: &Store, after: &Store) -> Vec<String> {

@@ -44,6 +44,7 @@ pub fn call(call: &Call, names: &Names) -> String {
         Call::Run { n } => format!("run {n}"),
         Call::Drop { task: number } => format!("drop {}", task(number)),
         Call::Sweep => "sweep".into(),
+        Call::TakeBack => "take back".into(),
         Call::TryDefine { .. } | Call::TryRecord { .. } => {
             let load = reference::gen::Call::load(call);
             format!("try: {}", load.map_or(String::new(), |load| self::call(&load, names)))
@@ -92,6 +93,7 @@ pub fn answer(call: &Call, told: &Told, names: &Names, ran: Option<&str>) -> Str
         (_, Call::Record { .. }) => "recorded".into(),
         (_, Call::Start { .. }) => "started".into(),
         (_, Call::Drop { .. }) => "dropped".into(),
+        (_, Call::TakeBack) => "taken back".into(),
         _ => "accepted".into(),
     }
 }

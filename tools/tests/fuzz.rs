@@ -20,7 +20,7 @@ use writer::source::Source;
 use writer::talk::Talk;
 
 /// Pieces that make sense somewhere.
-const WORDS: [&str; 51] = [
+const WORDS: [&str; 52] = [
     "insurer Red 2\n",
     "insurer Blue\nready Blue 1 2\n",
     "Red defines ",
@@ -64,6 +64,7 @@ const WORDS: [&str; 51] = [
     "run 65535\n",
     "step\n",
     "sweep\n",
+    "take back\n",
     "damage counts 9 1\n",
     "quote ",
     "-2147483649 ",

@@ -1,4 +1,4 @@
--- A call as code makes it is one of the definition's nine; a define's file, tried or not, is the bytes lent beside it.
+-- A call as code makes it is one of the definition's ten; a define's file, tried or not, is the bytes lent beside it.
 use mathlib.Core.Path.{_≡_, sym, ap, _∙_}
 use mathlib.Core.List.{List}
 use Prim.Native.Nat.{ℕ, _-_, _<_, _≤_}
@@ -9,9 +9,9 @@ use lib.Dec.{ltb}
 use borrow.Author.Tests.{le-ltb}
 use Rattle.definition.specs.Numbers.{listLimit}
 use Rattle.definition.specs.Calls as calls
-use Rattle.definition.specs.Calls.{callBoot, callDefine, callRecord, callStart, callStep, callRun, callDrop, callSweep, callTry, loadDefine, loadRecord}
+use Rattle.definition.specs.Calls.{callBoot, callDefine, callRecord, callStart, callStep, callRun, callDrop, callSweep, callTry, callTakeBack, loadDefine, loadRecord}
 pub use Rattle.calls.specs.declared.Call.{Call}
-pub use Rattle.calls.specs.declared.Call.the-variants.{Boot, Define, Record, Start, Step, Run, Drop, Sweep, TryDefine, TryRecord}
+pub use Rattle.calls.specs.declared.Call.the-variants.{Boot, Define, Record, Start, Step, Run, Drop, Sweep, TryDefine, TryRecord, TakeBack}
 
 unfoldable pub callOf : Call → List ℕ → calls.Call
 callOf Boot bs = callBoot
@@ -24,6 +24,7 @@ callOf (Drop k) bs = callDrop k
 callOf Sweep bs = callSweep
 callOf (TryDefine l n) bs = callTry (loadDefine l bs) n
 callOf (TryRecord l m c n) bs = callTry (loadRecord l m c) n
+callOf TakeBack bs = callTakeBack
 
 -- a list of m numbers serves a try as one of n does: both are too short, or neither is
 abbrev pub Serves : ℕ → ℕ → Type 0

@@ -20,6 +20,7 @@ pub enum Call {
     Sweep,
     TryDefine(u32, u32),
     TryRecord(u32, u32, u32, u32),
+    TakeBack,
 }
 
 // How many cells of a list of its own a try is lent, where its caller has n: all of them, or as many as it asks for.
@@ -234,6 +235,16 @@ pub fn perform(
             name,
             class,
             n,
+        ),
+        Call::TakeBack => undoing::take_back(
+            counts,
+            classes,
+            kept,
+            cache,
+            ties,
+            subtypes,
+            objects,
+            frames,
         ),
     }
 }

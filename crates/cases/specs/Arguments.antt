@@ -23,7 +23,7 @@ use Rattle.definition.specs.Sweeping.{named, roots, linksFrom, reached, sweptFr
 use Rattle.definition.specs.Tables.{Tables, tie, fileAt, classAt}
 use Rattle.definition.specs.Constraints.{Tie}
 use Rattle.definition.specs.declared.Reply.the-variants.{Accepted}
-use Rattle.definition.specs.Calls.{Call, boot, callDefine, callRecord, callStart, callStep, callRun, turn, turnOf, defineRows, recordRows, startRows, dropRows, sweepRows, answerOf, stepTask, stepOn, stepRows}
+use Rattle.definition.specs.Calls.{Call, boot, callDefine, callRecord, callStart, callStep, callRun, turn, turnOf, defineRows, entryTrace, recordRows, startRows, dropRows, sweepRows, answerOf, stepTask, stepOn, stepRows}
 use Rattle.definition.specs.Computing.OnRows.{settle, onRows, runRows, performRows, performAllRows}
 use Rattle.definition.specs.Computing.Samples.{fileF, two, method, fileOf, plain, taker, coded, lifts, pushes, ready, tied12, tied123}
 use Rattle.cases.specs.Cases.{Case, case, line, no, class, numbersFrom, accepted, Right}
@@ -149,7 +149,7 @@ listings =
     ∷ []
 
 listed : All (λ c. seen c ≡ meant c) listings
-unfolding listings types method3 file3 invoke caller several none4 early overriding rates3 cut fours five twice loaders crowded calling tiesWith crowd seen meant size accepted endsIn isSome signed intBits less shown number numberOfStep numberOf refusalDetails stepDetails details _>>=_ need take? defineRows recordRows startRows dropRows answerOf stepTask stepOn stepRows turnOf turn find lower superOf loaderOf ownSlots slotsIn slots slotIs hasField sameSignature alike methodsOf hasMethod selected tieEdges subtypeEdges edges pairAgrees rowAgrees agreesOver agrees tieIs newTie newTies signatureTies agreesAfter post byte short name count fieldsIn oneIn listIn argumentsOf argumentsIn signatureIn namesIn mapIn mapsFrom mapsIn methodsIn ends sameField sameMethod readFile pick opcodeOf inlineLength shortAt shortsAt listSignatureAt extend instructionOf sizedAs decode every all any doubled indexOf isNone toList sameList filled subtypeIs newSubtypes overrideTie overrideTies define recorded started existing initialValue newObject pop! popAll! int! reference! kind! kinds! room! object! now under! give execute step Maybe._>>=_ Maybe.need sameRequest has fires rest grow reachFrom reach leads seek nearest below fileAt classAt typeOfName meetClass meetInt meets pop popAll isNamed effect returns target goesOn mapAt localType meetLocal meetAll meetMap flowInto flowToTarget startAt after Verifier.turn mapsPast verify typesAt unmappedFrom unmapped notesOf settle onRows runRows performRows performAllRows two method fileOf plain fileF taker coded lifts pushes ready tied12 tied123 ofKind! compute jumps meetKind returnKind notesOfMethod unused made roomless shareUsed madeBy rewritten changed objectHeld inUse numbersFrom named roots linksFrom reached sweptFrom freedFrom sweepRows
+unfolding listings types method3 file3 invoke caller several none4 early overriding rates3 cut fours five twice loaders crowded calling tiesWith crowd seen meant size accepted endsIn isSome signed intBits less shown number numberOfStep numberOf refusalDetails stepDetails details _>>=_ need take? defineRows entryTrace recordRows startRows dropRows answerOf stepTask stepOn stepRows turnOf turn find lower superOf loaderOf ownSlots slotsIn slots slotIs hasField sameSignature alike methodsOf hasMethod selected tieEdges subtypeEdges edges pairAgrees rowAgrees agreesOver agrees tieIs newTie newTies signatureTies agreesAfter post byte short name count fieldsIn oneIn listIn argumentsOf argumentsIn signatureIn namesIn mapIn mapsFrom mapsIn methodsIn ends sameField sameMethod readFile pick opcodeOf inlineLength shortAt shortsAt listSignatureAt extend instructionOf sizedAs decode every all any doubled indexOf isNone toList sameList filled subtypeIs newSubtypes overrideTie overrideTies define recorded started existing initialValue newObject pop! popAll! int! reference! kind! kinds! room! object! now under! give execute step Maybe._>>=_ Maybe.need sameRequest has fires rest grow reachFrom reach leads seek nearest below fileAt classAt typeOfName meetClass meetInt meets pop popAll isNamed effect returns target goesOn mapAt localType meetLocal meetAll meetMap flowInto flowToTarget startAt after Verifier.turn mapsPast verify typesAt unmappedFrom unmapped notesOf settle onRows runRows performRows performAllRows two method fileOf plain fileF taker coded lifts pushes ready tied12 tied123 ofKind! compute jumps meetKind returnKind notesOfMethod unused made roomless shareUsed madeBy rewritten changed objectHeld inUse numbersFrom named roots linksFrom reached sweptFrom freedFrom sweepRows
 listed = (refl, (refl, (refl, (refl, (refl, (refl, (refl, (refl, (refl, (refl, (refl, (refl, (refl, (refl, (refl, (refl, (refl, tt)))))))))))))))))
 
 steps : All (λ c. OneStep (c .last)) listings

@@ -23,7 +23,7 @@ use Rattle.definition.specs.Loading.{subtypeIs, newSubtypes, overrideTie, overr
 use Rattle.definition.specs.Sweeping.{named, roots, linksFrom, reached, sweptFrom, freedFrom}
 use Rattle.definition.specs.Tables.{Tables, subtype, fileAt, classAt}
 use Rattle.definition.specs.declared.Reply.the-variants.{Accepted}
-use Rattle.definition.specs.Calls.{boot, callDefine, callStart, callStep, callRun, callSweep, turn, turnOf, defineRows, recordRows, startRows, dropRows, sweepRows, answerOf, stepTask, stepOn, stepRows}
+use Rattle.definition.specs.Calls.{boot, callDefine, callStart, callStep, callRun, callSweep, turn, turnOf, defineRows, entryTrace, recordRows, startRows, dropRows, sweepRows, answerOf, stepTask, stepOn, stepRows}
 use Rattle.definition.specs.Computing.OnRows.{settle, onRows, runRows, performRows, performAllRows}
 use Rattle.definition.specs.Computing.Samples.{fileF, two, method, fileOf, plain, taker, coded, lifts, pushes, ready, tied12, tied123}
 use Rattle.cases.specs.Cases.{Case, case, line, no, numbersFrom, accepted, Right}
@@ -163,7 +163,7 @@ branches =
     ∷ []
 
 branched : Computed branches
-unfolding freedIn branches class2 later both twos stand point countdown negative zeroed counting joining partly entering parting following inside forgetting rowsBefore rowsAfter answeredRows size accepted endsIn isSome signed less shown number numberOfStep numberOf refusalDetails stepDetails details _>>=_ need take? defineRows recordRows startRows dropRows answerOf stepTask stepOn stepRows turnOf turn find lower superOf loaderOf ownSlots slotsIn slots slotIs hasField sameSignature alike methodsOf hasMethod selected tieEdges subtypeEdges edges pairAgrees rowAgrees agreesOver agrees tieIs newTie newTies signatureTies agreesAfter post byte short name count fieldsIn oneIn argumentsIn signatureIn namesIn mapIn mapsFrom mapsIn methodsIn ends sameField sameMethod readFile pick opcodeOf inlineLength shortAt extend instructionOf sizedAs decode every all any doubled indexOf isNone toList sameList filled subtypeIs newSubtypes overrideTie overrideTies define recorded started existing initialValue newObject pop! popAll! int! reference! kind! kinds! room! object! now under! give execute step Maybe._>>=_ Maybe.need sameRequest has fires rest grow reachFrom reach leads seek nearest below fileAt classAt typeOfName meetClass meetInt meets pop popAll isNamed effect returns target goesOn mapAt localType meetLocal meetAll meetMap flowInto flowToTarget startAt after Verifier.turn mapsPast verify typesAt unmappedFrom unmapped notesOf settle onRows runRows performRows performAllRows two method fileOf plain fileF taker coded lifts pushes ready tied12 tied123 ofKind! compute jumps meetKind returnKind notesOfMethod unused made roomless shareUsed madeBy rewritten changed objectHeld inUse numbersFrom named roots linksFrom reached sweptFrom freedFrom sweepRows
+unfolding freedIn branches class2 later both twos stand point countdown negative zeroed counting joining partly entering parting following inside forgetting rowsBefore rowsAfter answeredRows size accepted endsIn isSome signed less shown number numberOfStep numberOf refusalDetails stepDetails details _>>=_ need take? defineRows entryTrace recordRows startRows dropRows answerOf stepTask stepOn stepRows turnOf turn find lower superOf loaderOf ownSlots slotsIn slots slotIs hasField sameSignature alike methodsOf hasMethod selected tieEdges subtypeEdges edges pairAgrees rowAgrees agreesOver agrees tieIs newTie newTies signatureTies agreesAfter post byte short name count fieldsIn oneIn argumentsIn signatureIn namesIn mapIn mapsFrom mapsIn methodsIn ends sameField sameMethod readFile pick opcodeOf inlineLength shortAt extend instructionOf sizedAs decode every all any doubled indexOf isNone toList sameList filled subtypeIs newSubtypes overrideTie overrideTies define recorded started existing initialValue newObject pop! popAll! int! reference! kind! kinds! room! object! now under! give execute step Maybe._>>=_ Maybe.need sameRequest has fires rest grow reachFrom reach leads seek nearest below fileAt classAt typeOfName meetClass meetInt meets pop popAll isNamed effect returns target goesOn mapAt localType meetLocal meetAll meetMap flowInto flowToTarget startAt after Verifier.turn mapsPast verify typesAt unmappedFrom unmapped notesOf settle onRows runRows performRows performAllRows two method fileOf plain fileF taker coded lifts pushes ready tied12 tied123 ofKind! compute jumps meetKind returnKind notesOfMethod unused made roomless shareUsed madeBy rewritten changed objectHeld inUse numbersFrom named roots linksFrom reached sweptFrom freedFrom sweepRows
 branched = record {
   answers = refl;
   prepared = refl;
@@ -171,7 +171,7 @@ branched = record {
   subtypes = refl;
   objects = refl;
   left = refl;
-  stays = (other refl, (other refl, (other refl, (other refl, (same (inl refl), (same (inl refl), (same (inl refl), (same (inl refl), (same (inl refl), (same (inl refl), (same (inl refl), (same (inl refl), (same (inl refl), (same (inl refl), (same (inl refl), (same (inl refl), (same (inl refl), (same (inl refl), (same (inl refl), (same (inl refl), (same (inl refl), (same (inl refl), (same (inl refl), (same (inl refl), (same (inl refl), (same (inl refl), (same (inl refl), (other refl, (other refl, (same (inl refl), (same (inl refl), (same (inr (unfreed held refl refl)), (same (inl refl), (same (inl refl), (same (inl refl), (same (inl refl), (same (inl refl), (same (inl refl), (other refl, tt)))))))))))))))))))))))))))))))))))))));
+  stays = (other refl, (other refl, (other refl, (other refl, (same (inl refl), (same (inl refl), (same (inl refl), (same (inl refl), (same (inl refl), (same (inl refl), (same (inl refl), (same (inl refl), (same (inl refl), (same (inl refl), (same (inl refl), (same (inl refl), (same (inl refl), (same (inl refl), (same (inl refl), (same (inl refl), (same (inl refl), (same (inl refl), (same (inl refl), (same (inl refl), (same (inl refl), (same (inl refl), (same (inl refl), (other refl, (other refl, (same (inl refl), (same (inl refl), (same (inr (unfreed held refl refl refl)), (same (inl refl), (same (inl refl), (same (inl refl), (same (inl refl), (same (inl refl), (same (inl refl), (other refl, tt)))))))))))))))))))))))))))))))))))))));
   steps = (tt, (tt, (tt, (tt, (tt, (tt, (tt, (tt, (tt, (tt, (tt, (tt, (tt, (tt, (tt, (tt, (tt, (tt, (tt, (tt, (tt, (tt, (tt, (tt, (tt, (tt, (tt, (tt, (tt, (tt, (tt, (tt, (tt, (tt, (tt, (tt, (tt, (tt, (tt, tt)))))))))))))))))))))))))))))))))))))));
 }
 

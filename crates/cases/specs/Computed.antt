@@ -23,7 +23,7 @@ use Rattle.definition.specs.Machine.{objectHeld, existing, inUse, unused, made,
 use Rattle.definition.specs.Loading.{subtypeIs, newSubtypes, overrideTie, overrideTies, define, recorded, started}
 use Rattle.definition.specs.Sweeping.{named, roots, linksFrom, reached, sweptFrom, freedFrom}
 use Rattle.definition.specs.Tables.{Rows, fileAt, classAt}
-use Rattle.definition.specs.Calls.{turn, turnOf, bootRows, defineRows, recordRows, startRows, dropRows, sweepRows, answerOf, stepTask, stepOn, stepRows}
+use Rattle.definition.specs.Calls.{turn, turnOf, bootRows, defineRows, entryTrace, recordRows, startRows, dropRows, sweepRows, answerOf, stepTask, stepOn, stepRows}
 use Rattle.definition.specs.Computing.OnRows.{settle, onRows, runRows, performRows, performAllRows}
 use Rattle.definition.specs.Computing.Samples.{fileF, two, method, fileOf, plain, taker, coded, lifts, pushes, ready, tied12, tied123}
 use Rattle.definition.specs.Script as Script
@@ -80,7 +80,7 @@ pub record Computed (table : List Case) : Type 0 where
   pub steps : All (λ c. OneStep (c .last)) table
 
 pub computed : Computed table
-unfolding rowsBefore rowsAfter answeredRows size accepted endsIn isSome signed less shown number numberOfStep numberOf refusalDetails stepDetails details _>>=_ need take? defineRows recordRows startRows dropRows answerOf stepTask stepOn stepRows turnOf turn find lower superOf loaderOf ownSlots slotsIn slots slotIs hasField sameSignature alike methodsOf hasMethod selected tieEdges subtypeEdges edges pairAgrees rowAgrees agreesOver agrees tieIs newTie newTies signatureTies agreesAfter post byte short name count fieldsIn oneIn argumentsIn signatureIn namesIn mapIn mapsFrom mapsIn methodsIn ends sameField sameMethod readFile pick opcodeOf inlineLength shortAt extend instructionOf sizedAs decode every all any doubled indexOf isNone toList sameList filled subtypeIs newSubtypes overrideTie overrideTies define recorded started existing initialValue newObject pop! popAll! int! reference! kind! kinds! room! object! now under! give execute step Maybe._>>=_ Maybe.need sameRequest has fires rest grow reachFrom reach leads seek nearest below fileAt classAt typeOfName meetClass meetInt meets pop popAll isNamed effect returns target goesOn mapAt localType meetLocal meetAll meetMap flowInto flowToTarget startAt after Verifier.turn mapsPast verify typesAt unmappedFrom unmapped notesOf settle onRows runRows performRows performAllRows two method fileOf plain fileF taker coded lifts pushes ready tied12 tied123 table ofKind! compute jumps meetKind returnKind notesOfMethod unused made roomless shareUsed madeBy rewritten changed objectHeld inUse numbersFrom named roots linksFrom reached sweptFrom freedFrom sweepRows
+unfolding rowsBefore rowsAfter answeredRows size accepted endsIn isSome signed less shown number numberOfStep numberOf refusalDetails stepDetails details _>>=_ need take? defineRows entryTrace recordRows startRows dropRows answerOf stepTask stepOn stepRows turnOf turn find lower superOf loaderOf ownSlots slotsIn slots slotIs hasField sameSignature alike methodsOf hasMethod selected tieEdges subtypeEdges edges pairAgrees rowAgrees agreesOver agrees tieIs newTie newTies signatureTies agreesAfter post byte short name count fieldsIn oneIn argumentsIn signatureIn namesIn mapIn mapsFrom mapsIn methodsIn ends sameField sameMethod readFile pick opcodeOf inlineLength shortAt extend instructionOf sizedAs decode every all any doubled indexOf isNone toList sameList filled subtypeIs newSubtypes overrideTie overrideTies define recorded started existing initialValue newObject pop! popAll! int! reference! kind! kinds! room! object! now under! give execute step Maybe._>>=_ Maybe.need sameRequest has fires rest grow reachFrom reach leads seek nearest below fileAt classAt typeOfName meetClass meetInt meets pop popAll isNamed effect returns target goesOn mapAt localType meetLocal meetAll meetMap flowInto flowToTarget startAt after Verifier.turn mapsPast verify typesAt unmappedFrom unmapped notesOf settle onRows runRows performRows performAllRows two method fileOf plain fileF taker coded lifts pushes ready tied12 tied123 table ofKind! compute jumps meetKind returnKind notesOfMethod unused made roomless shareUsed madeBy rewritten changed objectHeld inUse numbersFrom named roots linksFrom reached sweptFrom freedFrom sweepRows
 computed = record {
   answers = refl;
   prepared = refl;
@@ -118,5 +118,5 @@ computed = record {
 
 -- the paper's worked example
 pub printed : scriptRows (Script.linesOf input) bootRows ≡ output
-unfolding input output scriptRows endsIn isSome signed less shown number numberOfStep numberOf refusalDetails stepDetails details _>>=_ need take? defineRows recordRows startRows dropRows answerOf stepTask stepOn stepRows turnOf turn find lower superOf loaderOf ownSlots slotsIn slots slotIs hasField sameSignature alike methodsOf hasMethod selected tieEdges subtypeEdges edges pairAgrees rowAgrees agreesOver agrees tieIs newTie newTies signatureTies agreesAfter post byte short name count fieldsIn oneIn argumentsIn signatureIn namesIn mapIn mapsFrom mapsIn methodsIn ends sameField sameMethod readFile pick opcodeOf inlineLength shortAt extend instructionOf sizedAs decode every all any doubled indexOf isNone toList sameList filled subtypeIs newSubtypes overrideTie overrideTies define recorded started existing initialValue newObject pop! popAll! int! reference! kind! kinds! room! object! now under! give execute step Maybe._>>=_ Maybe.need sameRequest has fires rest grow reachFrom reach leads seek nearest below fileAt classAt typeOfName meetClass meetInt meets pop popAll isNamed effect returns target goesOn mapAt localType meetLocal meetAll meetMap flowInto flowToTarget startAt after Verifier.turn mapsPast verify typesAt unmappedFrom unmapped notesOf settle onRows runRows performRows performAllRows two method fileOf plain fileF taker coded lifts pushes ready tied12 tied123 Script.digit Script.digits Script.decimal Script.upTo Script.int Script.hexDigit Script.hexPairs Script.file Script.grow Script.fields Script.command Script.commandOf Script.readLine Script.printed Script.printedInt Script.printedLine Script.linesOf ofKind! compute jumps meetKind returnKind notesOfMethod unused made roomless shareUsed madeBy objectHeld
+unfolding input output scriptRows endsIn isSome signed less shown number numberOfStep numberOf refusalDetails stepDetails details _>>=_ need take? defineRows entryTrace recordRows startRows dropRows answerOf stepTask stepOn stepRows turnOf turn find lower superOf loaderOf ownSlots slotsIn slots slotIs hasField sameSignature alike methodsOf hasMethod selected tieEdges subtypeEdges edges pairAgrees rowAgrees agreesOver agrees tieIs newTie newTies signatureTies agreesAfter post byte short name count fieldsIn oneIn argumentsIn signatureIn namesIn mapIn mapsFrom mapsIn methodsIn ends sameField sameMethod readFile pick opcodeOf inlineLength shortAt extend instructionOf sizedAs decode every all any doubled indexOf isNone toList sameList filled subtypeIs newSubtypes overrideTie overrideTies define recorded started existing initialValue newObject pop! popAll! int! reference! kind! kinds! room! object! now under! give execute step Maybe._>>=_ Maybe.need sameRequest has fires rest grow reachFrom reach leads seek nearest below fileAt classAt typeOfName meetClass meetInt meets pop popAll isNamed effect returns target goesOn mapAt localType meetLocal meetAll meetMap flowInto flowToTarget startAt after Verifier.turn mapsPast verify typesAt unmappedFrom unmapped notesOf settle onRows runRows performRows performAllRows two method fileOf plain fileF taker coded lifts pushes ready tied12 tied123 Script.digit Script.digits Script.decimal Script.upTo Script.int Script.hexDigit Script.hexPairs Script.file Script.grow Script.fields Script.command Script.commandOf Script.readLine Script.printed Script.printedInt Script.printedLine Script.linesOf ofKind! compute jumps meetKind returnKind notesOfMethod unused made roomless shareUsed madeBy objectHeld
 printed = refl

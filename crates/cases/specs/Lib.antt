@@ -11,3 +11,5 @@ pub mod Arguments
 pub mod Tried
 pub mod Versions
 pub mod Share
+pub mod TakenBack
+pub mod Levels

@@ -21,8 +21,8 @@ use Rattle.definition.specs.Machine.{free, owned, Objects, objectHeld, existing
 use Rattle.definition.specs.Loading.{subtypeIs, newSubtypes, overrideTie, overrideTies, define, recorded, started}
 use Rattle.definition.specs.Sweeping.{named, roots, linksFrom, reached, sweptFrom, freedFrom}
 use Rattle.definition.specs.Tables.{Tables, shaped, Rows, withObjects, fileAt, classAt, view}
-use Rattle.definition.specs.Broken.{within, isObject, classFits, classesFit, entryFits, tieFits, subtypeFits, valueFits, localFits, objectFits, frameFits, next, others, inTurn, numbered, sound, whole, broken}
-use Rattle.definition.specs.Calls.{numberedOn, Call, callDefine, callStart, callRun, callStep, callDrop, callSweep, bootRows, turn, turnOf, defineRows, recordRows, startRows, dropRows, sweepRows, answerOf, stepTask, stepOn, stepRows, perform, performAll}
+use Rattle.definition.specs.Broken.{within, isObject, classFits, classesFit, entryFits, tieFits, subtypeFits, valueFits, localFits, objectFits, frameFits, next, others, inTurn, numbered, sound, traceFits, whole, broken}
+use Rattle.definition.specs.Calls.{closed, numberedOn, Call, callDefine, callStart, callRun, callStep, callDrop, callSweep, bootRows, turn, turnOf, defineRows, entryTrace, recordRows, startRows, dropRows, sweepRows, answerOf, stepTask, stepOn, stepRows, perform, performAll}
 use Rattle.definition.specs.Computing.OnRows.{settle, onRows, runRows, performRows, performAllRows}
 use Rattle.definition.specs.Computing.Samples.{fileF, two, method, fileOf, plain, taker, coded, lifts, pushes, ready, tied12, tied123}
 use Rattle.layout.specs.Tests.{All}
@@ -37,9 +37,9 @@ unfoldable pub unowned : ℕ → Objects
 unowned zero = []
 unowned (suc n) = free ∷ unowned n
 
--- class 10 is loaded, and these are the objects
+-- class 10 is loaded, these are the objects, and no load can be taken back: what made an object closed it
 unfoldable pub holding : Objects → Rows
-holding os = withObjects os (performAllRows (ready ++ callDefine 1 (coded (0xBB ∷ 0 ∷ 10 ∷ 0x3A ∷ 2 ∷ 0xBB ∷ 0 ∷ 10 ∷ 0x3A ∷ 3 ∷ 0x11 ∷ 0 ∷ 0 ∷ 0xAC ∷ [])) ∷ []) bootRows .rows)
+holding os = closed (withObjects os (performAllRows (ready ++ callDefine 1 (coded (0xBB ∷ 0 ∷ 10 ∷ 0x3A ∷ 2 ∷ 0xBB ∷ 0 ∷ 10 ∷ 0x3A ∷ 3 ∷ 0x11 ∷ 0 ∷ 0 ∷ 0xAC ∷ [])) ∷ []) bootRows .rows))
 
 -- objects, calls that go before, the call that is shown, and the word that it is refused with or that its run ends in, 0 if none
 pub record ShareCase : Type 0 where
@@ -94,7 +94,7 @@ record Computed : Type 0 where
   quotes : sound (holding (of 0 256)) ≡ true
 
 computed : Computed
-unfolding of unowned holding shares told toldRows isObject classFits classesFit entryFits tieFits subtypeFits valueFits localFits objectFits frameFits next others inTurn numbered sound allFrom endsIn isSome number numberOfStep numberOf _>>=_ need take? defineRows recordRows startRows dropRows answerOf stepTask stepOn stepRows turnOf turn find lower superOf loaderOf ownSlots slotsIn slots slotIs hasField sameSignature alike methodsOf hasMethod selected tieEdges subtypeEdges edges pairAgrees rowAgrees agreesOver agrees tieIs newTie newTies signatureTies agreesAfter post byte short name count fieldsIn oneIn argumentsIn signatureIn namesIn mapIn mapsFrom mapsIn methodsIn ends sameField sameMethod readFile pick opcodeOf inlineLength shortAt extend instructionOf sizedAs decode every all any doubled indexOf isNone toList sameList filled subtypeIs newSubtypes overrideTie overrideTies define recorded started existing initialValue newObject pop! popAll! int! reference! kind! kinds! room! object! now under! give execute step Maybe._>>=_ Maybe.need sameRequest has fires rest grow reachFrom reach leads seek nearest below fileAt classAt typeOfName meetClass meetInt meets pop popAll isNamed effect returns target goesOn mapAt localType meetLocal meetAll meetMap flowInto flowToTarget startAt after Verifier.turn mapsPast verify typesAt unmappedFrom unmapped notesOf settle onRows runRows performRows performAllRows two method fileOf plain fileF taker coded lifts pushes ready tied12 tied123 ofKind! compute jumps meetKind returnKind notesOfMethod unused made roomless shareUsed madeBy rewritten changed objectHeld inUse named roots linksFrom reached sweptFrom freedFrom sweepRows numberedOn rows
+unfolding of unowned holding shares told toldRows isObject classFits classesFit entryFits tieFits subtypeFits valueFits localFits objectFits frameFits next others inTurn numbered sound allFrom endsIn isSome number numberOfStep numberOf _>>=_ need take? defineRows entryTrace recordRows startRows dropRows answerOf stepTask stepOn stepRows turnOf turn find lower superOf loaderOf ownSlots slotsIn slots slotIs hasField sameSignature alike methodsOf hasMethod selected tieEdges subtypeEdges edges pairAgrees rowAgrees agreesOver agrees tieIs newTie newTies signatureTies agreesAfter post byte short name count fieldsIn oneIn argumentsIn signatureIn namesIn mapIn mapsFrom mapsIn methodsIn ends sameField sameMethod readFile pick opcodeOf inlineLength shortAt extend instructionOf sizedAs decode every all any doubled indexOf isNone toList sameList filled subtypeIs newSubtypes overrideTie overrideTies define recorded started existing initialValue newObject pop! popAll! int! reference! kind! kinds! room! object! now under! give execute step Maybe._>>=_ Maybe.need sameRequest has fires rest grow reachFrom reach leads seek nearest below fileAt classAt typeOfName meetClass meetInt meets pop popAll isNamed effect returns target goesOn mapAt localType meetLocal meetAll meetMap flowInto flowToTarget startAt after Verifier.turn mapsPast verify typesAt unmappedFrom unmapped notesOf settle onRows runRows performRows performAllRows two method fileOf plain fileF taker coded lifts pushes ready tied12 tied123 ofKind! compute jumps meetKind returnKind notesOfMethod unused made roomless shareUsed madeBy rewritten changed objectHeld inUse named roots linksFrom reached sweptFrom freedFrom sweepRows numberedOn rows
 computed = record { told = refl; whole = refl; few = refl; many = refl; quotes = refl }
 
 -- On tables of the published lengths, with counts within their limits, that show these rows
@@ -102,18 +102,18 @@ computed = record { told = refl; whole = refl; few = refl; many = refl; quotes =
 unfoldable pub toldOn : Tables → ShareCase → ℕ
 toldOn t c = told (perform (c .last) (performAll (c .before) t .tables) .answer)
 
-broken-is : (t : Tables) → shaped t ≡ true → within (t .counts) ≡ true → (r : Rows) → view t ≡ r → (b : Bool) → sound r ≡ b → broken t ≡ not b
-unfolding broken whole every
-broken-is t s w r e b h = rw (s, w, e, h) (go b)
+broken-is : (t : Tables) → shaped t ≡ true → within (t .counts) ≡ true → (os : Objects) → view t ≡ holding os → (b : Bool) → sound (holding os) ≡ b → broken t ≡ not b
+unfolding broken whole every holding traceFits
+broken-is t s w os e b h = rw (s, w, e, h) (go b)
   where
-    go : (b : Bool) → not (elim b as (λ _. Bool) [ true ↦ true | false ↦ false ]) ≡ not b
+    go : (b : Bool) → not (every (b ∷ true ∷ [])) ≡ not b
     go true = refl
     go false = refl
 
 on-rows : (t : Tables) → shaped t ≡ true → within (t .counts) ≡ true → (c : ShareCase) → sound (holding (c .objects)) ≡ true → view t ≡ holding (c .objects) → toldOn t c ≡ toldRows c
 unfolding toldOn toldRows
 on-rows t s w c h e =
-    let shown : Shows t (holding (c .objects)) = record { unbroken = broken-is t s w (holding (c .objects)) e true h; rows = e } in
+    let shown : Shows t (holding (c .objects)) = record { unbroken = broken-is t s w (c .objects) e true h; rows = e } in
     ap told (same-perform (c .last) _ _ (same-all (c .before) t (holding (c .objects)) shown .1) .0)
 
 -- each case's word is told; and 192 of the report aren't too many, 193 are, nor are 256 of the quote

@@ -1,6 +1,6 @@
 -- Dead objects: the worked cases of the paper on them, as a table under the same statement as P1 to P10. A class 10 has a field 5 of its own type, so that
 -- objects can be linked.
-use mathlib.Core.Path.{_≡_, refl, ap, _∙_}
+use mathlib.Core.Path.{_≡_, refl, sym, ap, _∙_}
 use mathlib.Core.Bool.{true, false}
 use mathlib.Core.List.{List, [], _∷_, _++_}
 use mathlib.Core.Logic.{inl, inr}
@@ -19,12 +19,12 @@ use Rattle.definition.specs.File.{byte, short, name, count, fieldsIn, oneIn, ar
 use Rattle.definition.specs.Instructions.{pick, opcodeOf, inlineLength, shortAt, extend, instructionOf, sizedAs, decode}
 use Rattle.definition.specs.Verifier.{typeOfName, meetClass, meetInt, meets, meetKind, pop, popAll, effect, returns, returnKind, target, goesOn, mapAt, localType, meetLocal, meetAll, meetMap, flowInto, flowToTarget, startAt, after, mapsPast, verify, typesAt, unmappedFrom, unmapped, notesOfMethod, notesOf}
 use Rattle.definition.specs.Verifier as Verifier
-use Rattle.definition.specs.Machine.{Objects, objectHeld, existing, inUse, unused, made, roomless, shareUsed, madeBy, rewritten, changed, initialValue, newObject, pop!, popAll!, int!, reference!, ofKind!, kind!, kinds!, compute, jumps, room!, object!, now, under!, give, execute, step}
+use Rattle.definition.specs.Machine.{objectHeld, existing, inUse, unused, made, roomless, shareUsed, madeBy, rewritten, changed, initialValue, newObject, pop!, popAll!, int!, reference!, ofKind!, kind!, kinds!, compute, jumps, room!, object!, now, under!, give, execute, step}
 use Rattle.definition.specs.Loading.{subtypeIs, newSubtypes, overrideTie, overrideTies, define, recorded, started}
 use Rattle.definition.specs.Sweeping.{named, roots, linksFrom, reached, sweptFrom, freedFrom}
-use Rattle.definition.specs.Tables.{Tables, Rows, withObjects, fileAt, classAt}
+use Rattle.definition.specs.Tables.{Tables, Rows, withTrace, withObjects, fileAt, classAt}
 use Rattle.definition.specs.declared.Reply.the-variants.{Accepted}
-use Rattle.definition.specs.Calls.{boot, Call, callDefine, callStart, callRun, callDrop, callSweep, turn, turnOf, defineRows, recordRows, startRows, dropRows, sweepRows, answerOf, stepTask, stepOn, stepRows}
+use Rattle.definition.specs.Calls.{boot, Call, callDefine, callStart, callRun, callDrop, callSweep, turn, turnOf, defineRows, entryTrace, recordRows, startRows, dropRows, sweepRows, answerOf, stepTask, stepOn, stepRows}
 use Rattle.definition.specs.Computing.OnRows.{settle, onRows, runRows, performRows, performAllRows}
 use Rattle.definition.specs.Computing.Samples.{fileF, two, method, fileOf, plain, taker, coded, lifts, pushes, ready, tied12, tied123}
 use Rattle.laws.specs.Sweeps.{none-freed}
@@ -123,21 +123,21 @@ sweeps =
     ∷ case 7 (loaded ++ quoted 256 ++ callSweep ∷ []) [] [] [] (callStart 0 1 10 20 7) fine (0 ∷ []) false
     ∷ []
 
--- a sweep that frees none leaves the rows as they were
+-- a sweep that frees none leaves the rows as they were, where no load can be taken back
 
 unfoldable pub freedIn : Rows → ℕ
 freedIn r = freedFrom (reached (r .objects) (r .quote ++ r .report)) 0 (r .objects)
 
-leaves : (r : Rows) → freedIn r ≡ 0 → performRows callSweep r .rows ≡ r
+leaves : (r : Rows) → freedIn r ≡ 0 → r .trace ≡ [] → performRows callSweep r .rows ≡ r
 unfolding freedIn performRows onRows settle sweepRows
-leaves r z = ap (λ (os : Objects). withObjects os r) (none-freed (reached (r .objects) (r .quote ++ r .report)) 0 (r .objects) z)
+leaves r z e = λ i. withTrace (sym e i) (withObjects (none-freed (reached (r .objects) (r .quote ++ r .report)) 0 (r .objects) z i) r)
 
-pub unfreed : (c : Case) → c .last ≡ callSweep → freedIn (rowsBefore c) ≡ 0 → rowsAfter c ≡ rowsBefore c
+pub unfreed : (c : Case) → c .last ≡ callSweep → freedIn (rowsBefore c) ≡ 0 → rowsBefore c .trace ≡ [] → rowsAfter c ≡ rowsBefore c
 unfolding rowsAfter
-unfreed c e z = ap (λ (d : Call). performRows d (rowsBefore c) .rows) e ∙ leaves (rowsBefore c) z
+unfreed c e z t = ap (λ (d : Call). performRows d (rowsBefore c) .rows) e ∙ leaves (rowsBefore c) z t
 
 swept : Computed sweeps
-unfolding freedIn sweeps node make link clear running cycle row called quoted upFrom rowsBefore rowsAfter answeredRows size accepted endsIn isSome signed less shown number numberOfStep numberOf refusalDetails stepDetails details _>>=_ need take? defineRows recordRows startRows dropRows answerOf stepTask stepOn stepRows turnOf turn find lower superOf loaderOf ownSlots slotsIn slots slotIs hasField sameSignature alike methodsOf hasMethod selected tieEdges subtypeEdges edges pairAgrees rowAgrees agreesOver agrees tieIs newTie newTies signatureTies agreesAfter post byte short name count fieldsIn oneIn argumentsIn signatureIn namesIn mapIn mapsFrom mapsIn methodsIn ends sameField sameMethod readFile pick opcodeOf inlineLength shortAt extend instructionOf sizedAs decode every all any doubled indexOf isNone toList sameList filled subtypeIs newSubtypes overrideTie overrideTies define recorded started existing initialValue newObject pop! popAll! int! reference! kind! kinds! room! object! now under! give execute step Maybe._>>=_ Maybe.need sameRequest has fires rest grow reachFrom reach leads seek nearest below fileAt classAt typeOfName meetClass meetInt meets pop popAll isNamed effect returns target goesOn mapAt localType meetLocal meetAll meetMap flowInto flowToTarget startAt after Verifier.turn mapsPast verify typesAt unmappedFrom unmapped notesOf settle onRows runRows performRows performAllRows two method fileOf plain fileF taker coded lifts pushes ready tied12 tied123 ofKind! compute jumps meetKind returnKind notesOfMethod unused made roomless shareUsed madeBy rewritten changed objectHeld inUse numbersFrom named roots linksFrom reached sweptFrom freedFrom sweepRows
+unfolding freedIn sweeps node make link clear running cycle row called quoted upFrom rowsBefore rowsAfter answeredRows size accepted endsIn isSome signed less shown number numberOfStep numberOf refusalDetails stepDetails details _>>=_ need take? defineRows entryTrace recordRows startRows dropRows answerOf stepTask stepOn stepRows turnOf turn find lower superOf loaderOf ownSlots slotsIn slots slotIs hasField sameSignature alike methodsOf hasMethod selected tieEdges subtypeEdges edges pairAgrees rowAgrees agreesOver agrees tieIs newTie newTies signatureTies agreesAfter post byte short name count fieldsIn oneIn argumentsIn signatureIn namesIn mapIn mapsFrom mapsIn methodsIn ends sameField sameMethod readFile pick opcodeOf inlineLength shortAt extend instructionOf sizedAs decode every all any doubled indexOf isNone toList sameList filled subtypeIs newSubtypes overrideTie overrideTies define recorded started existing initialValue newObject pop! popAll! int! reference! kind! kinds! room! object! now under! give execute step Maybe._>>=_ Maybe.need sameRequest has fires rest grow reachFrom reach leads seek nearest below fileAt classAt typeOfName meetClass meetInt meets pop popAll isNamed effect returns target goesOn mapAt localType meetLocal meetAll meetMap flowInto flowToTarget startAt after Verifier.turn mapsPast verify typesAt unmappedFrom unmapped notesOf settle onRows runRows performRows performAllRows two method fileOf plain fileF taker coded lifts pushes ready tied12 tied123 ofKind! compute jumps meetKind returnKind notesOfMethod unused made roomless shareUsed madeBy rewritten changed objectHeld inUse numbersFrom named roots linksFrom reached sweptFrom freedFrom sweepRows
 swept = record {
   answers = refl;
   prepared = refl;
@@ -146,14 +146,14 @@ swept = record {
   objects = refl;
   left = refl;
   stays = (
-    same (inr (unfreed booted refl refl)),
+    same (inr (unfreed booted refl refl refl)),
     (
       other refl,
       (
-        same (inr (unfreed cycleHeld refl refl)),
+        same (inr (unfreed cycleHeld refl refl refl)),
         (
-          same (inr (unfreed rowHeld refl refl)),
-          (other refl, (other refl, (same (inr (unfreed waitingHeld refl refl)), (same (inr (unfreed takenAgain refl refl)), (same (inl refl), (other refl, (other refl, tt))))))),
+          same (inr (unfreed rowHeld refl refl refl)),
+          (other refl, (other refl, (same (inr (unfreed waitingHeld refl refl refl)), (same (inr (unfreed takenAgain refl refl refl)), (same (inl refl), (other refl, (other refl, tt))))))),
         ),
       ),
     ),

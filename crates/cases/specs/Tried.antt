@@ -19,7 +19,7 @@ use Rattle.definition.specs.Verifier.{typeOfName, meetClass, meetInt, meets, me
 use Rattle.definition.specs.Verifier as Verifier
 use Rattle.definition.specs.Loading.{subtypeIs, newSubtypes, overrideTie, overrideTies, define, recorded}
 use Rattle.definition.specs.Tables.{Tables, Rows, fileAt, classAt}
-use Rattle.definition.specs.Calls.{Call, callDefine, callRecord, Load, loadDefine, loadRecord, triedWith, tryRows, numberedOn, bootRows, boot, performAll, defineRows, recordRows}
+use Rattle.definition.specs.Calls.{Call, callDefine, callRecord, Load, loadDefine, loadRecord, triedWith, tryRows, numberedOn, bootRows, boot, performAll, defineRows, entryTrace, recordRows}
 use Rattle.definition.specs.Reasons.{Tried, tieLinks, subtypeLinks, precedes, earlier, firstOf, ended, along, best, bestFrom, ofLength, shortest, reasonOver, reason, listed, afterDefine, reasonAfter, tried, tryLoadRows, tryLoad}
 use Rattle.definition.specs.Computing.OnRows.{settle, onRows, performRows, performAllRows}
 use Rattle.definition.specs.Computing.Samples.{two, method, fileOf, plain, taker, lifts, ready, tied12, tied123}
@@ -124,7 +124,7 @@ unfoldable pub expected : TriedCase → List ℕ
 expected c = c .word ∷ c .chain
 
 computed : map (λ c. told (triedRows c)) tryings ≡ map expected tryings
-unfolding told expected tryings triedRows tryLoadRows tryRows triedWith tried listed afterDefine reasonAfter reason reasonOver shortest ofLength bestFrom best along ended firstOf earlier precedes tieLinks subtypeLinks numberedOn rows writeRows every all any doubled indexOf isSome isNone toList sameList filled Maybe._>>=_ Maybe.need has fires rest grow reachFrom reach leads sameRequest number numberOf _>>=_ need take? seek nearest below find lower superOf loaderOf ownSlots slotsIn slots slotIs hasField sameSignature alike methodsOf hasMethod selected isNamed tieEdges subtypeEdges edges pairAgrees rowAgrees agreesOver agrees tieIs newTie newTies signatureTies agreesAfter post byte short name count fieldsIn oneIn argumentsIn signatureIn namesIn mapIn mapsFrom mapsIn methodsIn ends sameField sameMethod readFile pick opcodeOf inlineLength shortAt extend instructionOf sizedAs decode typeOfName meetClass meetInt meets meetKind pop popAll effect returns returnKind target goesOn mapAt localType meetLocal meetAll meetMap flowInto flowToTarget startAt after mapsPast verify typesAt unmappedFrom unmapped notesOfMethod notesOf subtypeIs newSubtypes overrideTie overrideTies define recorded fileAt classAt defineRows recordRows settle onRows performRows performAllRows two method fileOf plain taker lifts ready tied12 tied123 Verifier.turn
+unfolding told expected tryings triedRows tryLoadRows tryRows triedWith tried listed afterDefine reasonAfter reason reasonOver shortest ofLength bestFrom best along ended firstOf earlier precedes tieLinks subtypeLinks numberedOn rows writeRows every all any doubled indexOf isSome isNone toList sameList filled Maybe._>>=_ Maybe.need has fires rest grow reachFrom reach leads sameRequest number numberOf _>>=_ need take? seek nearest below find lower superOf loaderOf ownSlots slotsIn slots slotIs hasField sameSignature alike methodsOf hasMethod selected isNamed tieEdges subtypeEdges edges pairAgrees rowAgrees agreesOver agrees tieIs newTie newTies signatureTies agreesAfter post byte short name count fieldsIn oneIn argumentsIn signatureIn namesIn mapIn mapsFrom mapsIn methodsIn ends sameField sameMethod readFile pick opcodeOf inlineLength shortAt extend instructionOf sizedAs decode typeOfName meetClass meetInt meets meetKind pop popAll effect returns returnKind target goesOn mapAt localType meetLocal meetAll meetMap flowInto flowToTarget startAt after mapsPast verify typesAt unmappedFrom unmapped notesOfMethod notesOf subtypeIs newSubtypes overrideTie overrideTies define recorded fileAt classAt defineRows entryTrace recordRows settle onRows performRows performAllRows two method fileOf plain taker lifts ready tied12 tied123 Verifier.turn
 computed = refl
 
 -- on tables

@@ -4,12 +4,12 @@ use mathlib.Core.List.{List, [], _∷_}
 use Prim.Native.Nat.{ℕ, zero, suc, _+_}
 use lib.ListN.{length, getD}
 use lib.Dec.{eqb, leb, ltb}
-use Rattle.definition.specs.Numbers.{loaderLimit, taskLimit, classLimit, keptLimit, cacheLimit, tieLimit, subtypeLimit, objectLimit, shareLimit, fieldLimit, frameLimit, operandLimit, countClasses, countKept, countCache, countTies, countSubtypes, countObjects, countFrames}
+use Rattle.definition.specs.Numbers.{loaderLimit, taskLimit, classLimit, keptLimit, cacheLimit, tieLimit, subtypeLimit, objectLimit, shareLimit, fieldLimit, frameLimit, operandLimit, traceLimit, countClasses, countKept, countCache, countTies, countSubtypes, countObjects, countFrames, loadsCell}
 use Rattle.definition.specs.Lists.{every, all, allFrom, isSome}
 use Rattle.definition.specs.Classes.{Base, Entry, superOf}
 use Rattle.definition.specs.Constraints.{Tie, Subtype}
 use Rattle.definition.specs.Machine.{Value, emptyValue, intValue, nullValue, objectValue, unlistedValue, ObjectRow, free, owned, Objects, Frame, existing, madeBy}
-use Rattle.definition.specs.Tables.{Tables, shaped, ClassRow, RowNumbers, Rows, fileAt, baseOf, sizeOf, view}
+use Rattle.definition.specs.Tables.{Tables, shaped, ClassRow, RowNumbers, Level, Rows, cutTo, fileAt, baseOf, sizeOf, view}
 
 -- each count within its limit
 unfoldable pub within : List ℕ → Bool
@@ -22,6 +22,7 @@ within c = every
     ∷ leb (getD c countObjects 0) objectLimit
     ∷ leb (getD c countFrames 0) frameLimit
     ∷ leb (getD c (countFrames + 1) 0) frameLimit
+    ∷ leb (getD c loadsCell 0) traceLimit
     ∷ [])
 
 -- class 0, if there, is boot's Object
@@ -104,8 +105,24 @@ sound r = every
     ∷ leb (madeBy 1 (r .objects)) shareLimit
     ∷ [])
 
+-- The trace: loads are taken back in turn, the latest first, each from what the one before left. That needs no rows that aren't there, and leaves no broken store.
+
+-- the rows are there
+unfoldable pub levelFits : Level → Rows → Bool
+levelFits l r = every
+    (leb (l .classes) (length (r .classes))
+    ∷ leb (l .kept) (length (r .kept))
+    ∷ leb (l .cache) (length (r .cache))
+    ∷ leb (l .ties) (length (r .ties))
+    ∷ leb (l .subtypes) (length (r .subtypes))
+    ∷ [])
+
+unfoldable pub traceFits : List Level → Rows → Bool
+traceFits [] r = true
+traceFits (l ∷ ls) r = every (levelFits l r ∷ sound (cutTo l r) ∷ traceFits ls (cutTo l r) ∷ [])
+
 unfoldable pub whole : Tables → Bool
-whole t = every (shaped t ∷ within (t .counts) ∷ sound (view t) ∷ [])
+whole t = every (shaped t ∷ within (t .counts) ∷ sound (view t) ∷ traceFits (view t .trace) (view t) ∷ [])
 
 unfoldable pub broken : Tables → Bool
 broken t = not (whole t)

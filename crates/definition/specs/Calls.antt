@@ -1,12 +1,12 @@
--- The nine calls: on rows, then on tables.
+-- The ten calls: on rows, then on tables.
 use mathlib.Core.Path.{_≡_}
 use mathlib.Core.Bool.{true, false, not, _&&_}
 use mathlib.Core.Option.{Option, none, some}
 use mathlib.Core.List.{List, [], _∷_, _++_}
 use Prim.Native.Nat.{ℕ, zero, suc, _+_, _-_}
-use lib.ListN.{length}
+use lib.ListN.{length, take}
 use lib.Dec.{eqb, leb, ltb}
-use Rattle.definition.specs.Numbers.{wordBroken, wordFile, wordUnknown, wordTaken, wordWanted, wordUnverified, wordAbsent, wordClash, wordFull, wordNull, wordBusy, wordMisnamed, wordStuck, wordUnmapped, wordShort, wordDivisor, wordShare, nameObject, loaderLimit, taskLimit, keptLimit, runLimit, listLimit}
+use Rattle.definition.specs.Numbers.{wordBroken, wordFile, wordUnknown, wordTaken, wordWanted, wordUnverified, wordAbsent, wordClash, wordFull, wordNull, wordBusy, wordMisnamed, wordStuck, wordUnmapped, wordShort, wordDivisor, wordShare, wordLate, nameObject, loaderLimit, taskLimit, keptLimit, runLimit, traceLimit, listLimit}
 use Rattle.definition.specs.Lists.{rows}
 use Rattle.definition.specs.Constraints.{Tie, Subtype, World}
 use Rattle.definition.specs.Answers.{Refusal, Word, Answer, Idle, Ran, Finished, Refused, Reply, Accepted, Defined, Stepped, RanFor, Swept, Denied, Result, refused, ok, number, _>>=_, need, take?}
@@ -14,7 +14,7 @@ use Rattle.definition.specs.Machine.{Frame, Progress, step}
 use Rattle.definition.specs.Loading.{define, recorded, started}
 use Rattle.definition.specs.Sweeping.{reached, sweptFrom, freedFrom}
 use Rattle.definition.specs.File.{readFile, classOf}
-use Rattle.definition.specs.Tables.{Tables, shaped, RowNumbers, rowNumbers, Rows, noRows, withClasses, withKept, withCache, withTies, withSubtypes, withObjects, withFrames, withNumbers, framesIn, classRow, entry, worldOf, view, put}
+use Rattle.definition.specs.Tables.{Tables, shaped, RowNumbers, rowNumbers, Level, Rows, noRows, withClasses, withKept, withCache, withTies, withSubtypes, withObjects, withFrames, withNumbers, withTrace, framesIn, levelOf, cutTo, classRow, entry, worldOf, view, put}
 use Rattle.definition.specs.Broken.{broken}
 
 -- On rows: an answer with the rows that the call leaves
@@ -43,14 +43,27 @@ numberedOn ts ss r =
     let n = length ss - length (r .subtypes) in
     rowNumbers (r .numbers .ties ++ numbersFrom (k + n) (length ts - length (r .ties))) (r .numbers .subtypes ++ numbersFrom k n)
 
+-- The trace: a load that changed the store is remembered by the level before it, of more than 32 the latest; `remembered r s` where the load made s of r. A
+-- call that may move objects under them closes what came before it.
+
+abbrev pub remembered : Rows → Rows → Rows
+remembered r s = withTrace (take traceLimit (levelOf r ∷ r .trace)) s
+
+abbrev pub closed : Rows → Rows
+closed r = withTrace [] r
+
 -- the next class, with its file behind the kept ones; cache and constraints as w has them
 abbrev pub addFile : ℕ → List ℕ → Rows → World → Rows
 addFile l bs r w =
-    withClasses (r .classes ++ (classRow l (length (r .kept)) (length bs) ∷ [])) (withKept (r .kept ++ bs)
-    (withCache (w .base .cache) (withTies (w .ties) (withSubtypes (w .subtypes) (withNumbers (numberedOn (w .ties) (w .subtypes) r) r)))))
+    remembered r (withClasses (r .classes ++ (classRow l (length (r .kept)) (length bs) ∷ [])) (withKept (r .kept ++ bs)
+    (withCache (w .base .cache) (withTies (w .ties) (withSubtypes (w .subtypes) (withNumbers (numberedOn (w .ties) (w .subtypes) r) r))))))
+
+-- the cache as w has it; the load is remembered if that is longer: a record of an entry that is there changes nothing
+unfoldable pub entryTrace : Rows → World → List Level
+entryTrace r w = elim (ltb (length (r .cache)) (length (w .base .cache))) [ true ↦ take traceLimit (levelOf r ∷ r .trace) | false ↦ r .trace ]
 
 abbrev pub addEntry : Rows → World → Rows
-addEntry r w = withCache (w .base .cache) r
+addEntry r w = withTrace (entryTrace r w) (withCache (w .base .cache) r)
 
 -- a task's progress: ties with their numbers, objects, and the task's frames
 abbrev pub progressed : ℕ → Rows → Progress → Rows
@@ -89,17 +102,25 @@ tryRows c n r = triedWith n r (loadRows c r)
 -- start of task k. 3 12 5 7 18 10
 unfoldable pub startRows : ℕ → ℕ → ℕ → ℕ → ℕ → Rows → Result (Given Reply)
 startRows k l n m v r =
-    need (ltb k taskLimit) (Word wordUnknown) >>= λ _. started k l n m v (worldOf r) (r .objects) (framesIn k r) >>= λ o. given Accepted (progressed k r o)
+    need (ltb k taskLimit) (Word wordUnknown) >>= λ _. started k l n m v (worldOf r) (r .objects) (framesIn k r) >>= λ o. given Accepted (closed (progressed k r o))
 
 -- drop of task k. 3
 unfoldable pub dropRows : ℕ → Rows → Result (Given Reply)
-dropRows k r = need (ltb k taskLimit) (Word wordUnknown) >>= λ _. given Accepted (withFrames k [] r)
+dropRows k r = need (ltb k taskLimit) (Word wordUnknown) >>= λ _. given Accepted (closed (withFrames k [] r))
 
 -- sweep: every object that no frame reaches is freed; the answer is their number. No refusal but 'broken'.
 unfoldable pub sweepRows : Rows → Result (Given Reply)
 sweepRows r =
     let R = reached (r .objects) (r .quote ++ r .report) in
-    given (Swept (freedFrom R 0 (r .objects))) (withObjects (sweptFrom R 0 (r .objects)) r)
+    given (Swept (freedFrom R 0 (r .objects))) (closed (withObjects (sweptFrom R 0 (r .objects)) r))
+
+-- take back: the latest load that changed the store is undone, where nothing closed it. 19
+unfoldable pub takenBack : List Level → Rows → Result (Given Reply)
+takenBack [] r = refused (Word wordLate)
+takenBack (l ∷ ls) r = given Accepted (withTrace ls (cutTo l r))
+
+abbrev pub takeBackRows : Rows → Result (Given Reply)
+takeBackRows r = takenBack (r .trace) r
 
 -- step: one instruction of the quote if it has a frame, else of the report; w is what the rows' classes, cache and constraints are
 
@@ -108,7 +129,7 @@ answerOf k none = Ran k
 answerOf k (some n) = Finished k n
 
 unfoldable pub stepTask : ℕ → World → Frame → List Frame → Rows → Result (Given Answer)
-stepTask k w f fs r = step k w (r .objects) f fs >>= λ o. given (answerOf k (o .result)) (progressed k r o)
+stepTask k w f fs r = step k w (r .objects) f fs >>= λ o. given (answerOf k (o .result)) (closed (progressed k r o))
 
 unfoldable pub stepOn : List Frame → List Frame → World → Rows → Result (Given Answer)
 stepOn (f ∷ fs) gs w r = stepTask 0 w f fs r
@@ -177,6 +198,7 @@ pub data RowCall : Type 0 where
   rowDrop : ℕ → RowCall
   rowSweep : RowCall
   rowTry : Load → ℕ → RowCall
+  rowTakeBack : RowCall
 
 abbrev pub onRowCall : RowCall → Rows → Result (Given Reply)
 onRowCall (rowDefine l bs) = defineRows l bs
@@ -185,6 +207,7 @@ onRowCall (rowStart k l n m v) = startRows k l n m v
 onRowCall (rowDrop k) = dropRows k
 onRowCall rowSweep = sweepRows
 onRowCall (rowTry c n) = tryRows c n
+onRowCall rowTakeBack = takeBackRows
 
 pub data Call : Type 0 where
   callBoot : Call
@@ -212,6 +235,9 @@ callSweep = callRows rowSweep
 abbrev pub callTry : Load → ℕ → Call
 callTry c n = callRows (rowTry c n)
 
+abbrev pub callTakeBack : Call
+callTakeBack = callRows rowTakeBack
+
 -- the words that each call may refuse with, in the order in which the definitions above test them; a run's last answer may be any of a step's
 unfoldable pub stepRefusals : List ℕ
 stepRefusals = wordBroken ∷ wordStuck ∷ wordWanted ∷ wordAbsent ∷ wordShare ∷ wordFull ∷ wordClash ∷ wordNull ∷ wordDivisor ∷ []
@@ -229,6 +255,7 @@ rowRefusals (rowStart k l n m v) = wordUnknown ∷ wordBusy ∷ wordWanted ∷ w
 rowRefusals (rowDrop k) = wordUnknown ∷ []
 rowRefusals rowSweep = []
 rowRefusals (rowTry c n) = wordUnknown ∷ wordShort ∷ loadRefusals c
+rowRefusals rowTakeBack = wordLate ∷ []
 
 unfoldable pub refusalsOf : Call → List ℕ
 refusalsOf callBoot = wordBroken ∷ []

@@ -61,6 +61,10 @@ wordDivisor = 17
 abbrev pub wordShare : ℕ
 wordShare = 18
 
+-- 'too late': no load is left that can be taken back
+abbrev pub wordLate : ℕ
+wordLate = 19
+
 -- Names: 0 is none; others than these are free
 
 abbrev pub nameInt : ℕ
@@ -117,6 +121,10 @@ localCount = 8
 -- steps of a run
 abbrev pub runLimit : ℕ
 runLimit = 65535
+
+-- loads that can be taken back
+abbrev pub traceLimit : ℕ
+traceLimit = 32
 
 -- the numbers that the list lent to a tried load has room for: one for each row of ties and of subtype constraints
 abbrev pub listLimit : ℕ
@@ -182,6 +190,16 @@ tieNumbersCell = ownersCell + objectLimit
 abbrev pub subtypeNumbersCell : ℕ
 subtypeNumbersCell = tieNumbersCell + tieLimit
 
+-- behind those, how many loads can be taken back, then the trace: for each of them, the oldest first, the first five counts before it
+abbrev pub loadsCell : ℕ
+loadsCell = subtypeNumbersCell + subtypeLimit
+
+abbrev pub traceCell : ℕ
+traceCell = loadsCell + 1
+
+abbrev pub levelCells : ℕ
+levelCells = 5
+
 -- Rows: cells of a row of classes, cache, ties and subtypes; of a value; of an object and of a frame, and where in them something stands
 
 abbrev pub rowCells : ℕ
@@ -219,7 +237,7 @@ frameCells = operandsCell + valueCells * operandLimit
 -- The published lengths
 
 abbrev pub countsLength : ℕ
-countsLength = subtypeNumbersCell + subtypeLimit
+countsLength = traceCell + traceLimit * levelCells
 
 abbrev pub classesLength : ℕ
 classesLength = classLimit * rowCells
@@ -277,11 +295,11 @@ abbrev pub allNumbers : List ℕ
 allNumbers =
     wordBroken ∷ wordFile ∷ wordUnknown ∷ wordTaken ∷ wordWanted ∷ wordUnverified
     ∷ wordAbsent ∷ wordHidden ∷ wordClash ∷ wordFull ∷ wordNull ∷ wordBusy
-    ∷ wordMisnamed ∷ wordStuck ∷ wordUnmapped ∷ wordShort ∷ wordDivisor ∷ wordShare ∷ nameInt ∷ nameObject ∷ loaderLimit ∷ taskLimit
+    ∷ wordMisnamed ∷ wordStuck ∷ wordUnmapped ∷ wordShort ∷ wordDivisor ∷ wordShare ∷ wordLate ∷ nameInt ∷ nameObject ∷ loaderLimit ∷ taskLimit
     ∷ classLimit ∷ keptLimit ∷ cacheLimit ∷ tieLimit ∷ subtypeLimit ∷ objectLimit ∷ shareLimit
-    ∷ fieldLimit ∷ frameLimit ∷ operandLimit ∷ localCount ∷ runLimit ∷ listLimit ∷ versionOne ∷ versionTwo ∷ versionThree
+    ∷ fieldLimit ∷ frameLimit ∷ operandLimit ∷ localCount ∷ runLimit ∷ traceLimit ∷ listLimit ∷ versionOne ∷ versionTwo ∷ versionThree
     ∷ fileLimit ∷ memberLimit ∷ argumentLimit ∷ codeLimit ∷ countClasses ∷ countKept ∷ countCache
-    ∷ countTies ∷ countSubtypes ∷ countObjects ∷ countFrames ∷ ownersCell ∷ tieNumbersCell ∷ subtypeNumbersCell ∷ rowCells ∷ valueCells
+    ∷ countTies ∷ countSubtypes ∷ countObjects ∷ countFrames ∷ ownersCell ∷ tieNumbersCell ∷ subtypeNumbersCell ∷ loadsCell ∷ traceCell ∷ levelCells ∷ rowCells ∷ valueCells
     ∷ fieldsCell ∷ objectCells ∷ methodCell ∷ pointCell ∷ depthCell ∷ localsCell
     ∷ operandsCell ∷ frameCells ∷ countsLength ∷ classesLength ∷ keptLength ∷ cacheLength
     ∷ tiesLength ∷ subtypesLength ∷ objectsLength ∷ framesLength ∷ kindEmpty ∷ kindInt

@@ -9,7 +9,7 @@ use mathlib.Core.List.{List, [], _∷_, map}
 use Prim.Native.Nat.{ℕ, zero, suc, _+_, _*_}
 use lib.ListN.{length, replicate, take, drop, getD, set}
 use lib.Dec.{eqb, leb}
-use Rattle.definition.specs.Numbers.{fieldLimit, frameLimit, localCount, countClasses, countKept, countCache, countTies, countSubtypes, countObjects, countFrames, ownersCell, tieNumbersCell, subtypeNumbersCell, rowCells, valueCells, objectCells, fieldsCell, frameCells, methodCell, pointCell, depthCell, localsCell, operandsCell, countsLength, classesLength, keptLength, cacheLength, tiesLength, subtypesLength, objectsLength, framesLength, kindEmpty, kindInt, kindNull, kindObject}
+use Rattle.definition.specs.Numbers.{fieldLimit, frameLimit, localCount, countClasses, countKept, countCache, countTies, countSubtypes, countObjects, countFrames, ownersCell, tieNumbersCell, subtypeNumbersCell, loadsCell, traceCell, levelCells, rowCells, valueCells, objectCells, fieldsCell, frameCells, methodCell, pointCell, depthCell, localsCell, operandsCell, countsLength, classesLength, keptLength, cacheLength, tiesLength, subtypesLength, objectsLength, framesLength, kindEmpty, kindInt, kindNull, kindObject}
 use Rattle.definition.specs.Lists.{every, rows, writeRows, stack, writeStack}
 use Rattle.definition.specs.Maybe.{_>>=_, need}
 use Rattle.definition.specs.Requests.{at}
@@ -66,6 +66,18 @@ pub record RowNumbers : Type 0 where
 abbrev pub rowNumbers : List ℕ → List ℕ → RowNumbers
 rowNumbers t s = record { ties = t; subtypes = s }
 
+-- What taking back a load goes by: how many classes, kept bytes, cache entries, ties and subtype constraints there were before it. A load adds only behind these.
+pub record Level : Type 0 where
+  pub classes : ℕ
+  pub kept : ℕ
+  pub cache : ℕ
+  pub ties : ℕ
+  pub subtypes : ℕ
+
+abbrev pub level : ℕ → ℕ → ℕ → ℕ → ℕ → Level
+level c k e t s = record { classes = c; kept = k; cache = e; ties = t; subtypes = s }
+
+-- `trace` has a level for each load that can be taken back, the latest first
 pub record Rows : Type 0 where
   pub classes : List ClassRow
   pub kept : List ℕ
@@ -76,35 +88,39 @@ pub record Rows : Type 0 where
   pub quote : List Frame
   pub report : List Frame
   pub numbers : RowNumbers
+  pub trace : List Level
 
-abbrev pub rowsOf : List ClassRow → List ℕ → List Entry → List Tie → List Subtype → Objects → List Frame → List Frame → RowNumbers → Rows
-rowsOf c k e t s o q p n = record { classes = c; kept = k; cache = e; ties = t; subtypes = s; objects = o; quote = q; report = p; numbers = n }
+abbrev pub rowsOf : List ClassRow → List ℕ → List Entry → List Tie → List Subtype → Objects → List Frame → List Frame → RowNumbers → List Level → Rows
+rowsOf c k e t s o q p n b = record { classes = c; kept = k; cache = e; ties = t; subtypes = s; objects = o; quote = q; report = p; numbers = n; trace = b }
 
 abbrev pub noRows : Rows
-noRows = rowsOf [] [] [] [] [] [] [] [] (rowNumbers [] [])
+noRows = rowsOf [] [] [] [] [] [] [] [] (rowNumbers [] []) []
 
 -- One part of the rows replaced, the rest as it was: a call names what it changes
 
 abbrev pub withClasses : List ClassRow → Rows → Rows
-withClasses x r = rowsOf x (r .kept) (r .cache) (r .ties) (r .subtypes) (r .objects) (r .quote) (r .report) (r .numbers)
+withClasses x r = rowsOf x (r .kept) (r .cache) (r .ties) (r .subtypes) (r .objects) (r .quote) (r .report) (r .numbers) (r .trace)
 
 abbrev pub withKept : List ℕ → Rows → Rows
-withKept x r = rowsOf (r .classes) x (r .cache) (r .ties) (r .subtypes) (r .objects) (r .quote) (r .report) (r .numbers)
+withKept x r = rowsOf (r .classes) x (r .cache) (r .ties) (r .subtypes) (r .objects) (r .quote) (r .report) (r .numbers) (r .trace)
 
 abbrev pub withCache : List Entry → Rows → Rows
-withCache x r = rowsOf (r .classes) (r .kept) x (r .ties) (r .subtypes) (r .objects) (r .quote) (r .report) (r .numbers)
+withCache x r = rowsOf (r .classes) (r .kept) x (r .ties) (r .subtypes) (r .objects) (r .quote) (r .report) (r .numbers) (r .trace)
 
 abbrev pub withTies : List Tie → Rows → Rows
-withTies x r = rowsOf (r .classes) (r .kept) (r .cache) x (r .subtypes) (r .objects) (r .quote) (r .report) (r .numbers)
+withTies x r = rowsOf (r .classes) (r .kept) (r .cache) x (r .subtypes) (r .objects) (r .quote) (r .report) (r .numbers) (r .trace)
 
 abbrev pub withSubtypes : List Subtype → Rows → Rows
-withSubtypes x r = rowsOf (r .classes) (r .kept) (r .cache) (r .ties) x (r .objects) (r .quote) (r .report) (r .numbers)
+withSubtypes x r = rowsOf (r .classes) (r .kept) (r .cache) (r .ties) x (r .objects) (r .quote) (r .report) (r .numbers) (r .trace)
 
 abbrev pub withObjects : Objects → Rows → Rows
-withObjects x r = rowsOf (r .classes) (r .kept) (r .cache) (r .ties) (r .subtypes) x (r .quote) (r .report) (r .numbers)
+withObjects x r = rowsOf (r .classes) (r .kept) (r .cache) (r .ties) (r .subtypes) x (r .quote) (r .report) (r .numbers) (r .trace)
 
 abbrev pub withNumbers : RowNumbers → Rows → Rows
-withNumbers x r = rowsOf (r .classes) (r .kept) (r .cache) (r .ties) (r .subtypes) (r .objects) (r .quote) (r .report) x
+withNumbers x r = rowsOf (r .classes) (r .kept) (r .cache) (r .ties) (r .subtypes) (r .objects) (r .quote) (r .report) x (r .trace)
+
+abbrev pub withTrace : List Level → Rows → Rows
+withTrace x r = rowsOf (r .classes) (r .kept) (r .cache) (r .ties) (r .subtypes) (r .objects) (r .quote) (r .report) (r .numbers) x
 
 -- what is said of task k: 0 is the quote, any other the report
 abbrev pub ofTask : {A : Type 0} → ℕ → A → A → A
@@ -115,7 +131,18 @@ abbrev pub framesIn : ℕ → Rows → List Frame
 framesIn k r = ofTask k (r .quote) (r .report)
 
 abbrev pub withFrames : ℕ → List Frame → Rows → Rows
-withFrames k x r = rowsOf (r .classes) (r .kept) (r .cache) (r .ties) (r .subtypes) (r .objects) (ofTask k x (r .quote)) (ofTask k (r .report) x) (r .numbers)
+withFrames k x r = rowsOf (r .classes) (r .kept) (r .cache) (r .ties) (r .subtypes) (r .objects) (ofTask k x (r .quote)) (ofTask k (r .report) x) (r .numbers) (r .trace)
+
+-- the level that the rows are at
+abbrev pub levelOf : Rows → Level
+levelOf r = level (length (r .classes)) (length (r .kept)) (length (r .cache)) (length (r .ties)) (length (r .subtypes))
+
+-- the rows cut to a level: of each table that loads add to the first rows, with the numbers of those of constraints
+unfoldable pub cutTo : Level → Rows → Rows
+cutTo l r =
+    withClasses (take (l .classes) (r .classes)) (withKept (take (l .kept) (r .kept))
+    (withCache (take (l .cache) (r .cache)) (withTies (take (l .ties) (r .ties)) (withSubtypes (take (l .subtypes) (r .subtypes))
+    (withNumbers (rowNumbers (take (l .ties) (r .numbers .ties)) (take (l .subtypes) (r .numbers .subtypes))) r)))))
 
 unfoldable pub fileAt : List ℕ → ClassRow → Option File
 fileAt bs k = need (leb (k .start + k .size) (length bs)) >>= λ _. readFile (take (k .size) (drop (k .start) bs))
@@ -259,6 +286,18 @@ numberAt s n i = getD n (s + i) 0
 unfoldable pub putNumber : ℕ → List ℕ → ℕ → ℕ → List ℕ
 putNumber s n i x = set n (s + i) x
 
+-- A level has five cells, in the order of the counts; row i of the trace, the oldest load's first
+
+unfoldable pub levelAt : List ℕ → ℕ → Level
+levelAt n i =
+    let c = traceCell + i * levelCells in
+    level (getD n c 0) (getD n (c + 1) 0) (getD n (c + 2) 0) (getD n (c + 3) 0) (getD n (c + 4) 0)
+
+unfoldable pub putLevel : List ℕ → ℕ → Level → List ℕ
+putLevel n i l =
+    let c = traceCell + i * levelCells in
+    set (set (set (set (set n c (l .classes)) (c + 1) (l .kept)) (c + 2) (l .cache)) (c + 3) (l .ties)) (c + 4) (l .subtypes)
+
 -- A frame has 52 cells: class, method, point, operand count, 8 locals, 16 operands from the lowest
 
 unfoldable pub localAt : List ℕ → ℕ → ℕ → Value
@@ -321,6 +360,10 @@ subtypesOf t = rows (subtypeAt (t .subtypes)) (getD (t .counts) countSubtypes 0)
 abbrev pub numbersOf : Tables → RowNumbers
 numbersOf t = rowNumbers (rows (numberAt tieNumbersCell (t .counts)) (getD (t .counts) countTies 0) 0) (rows (numberAt subtypeNumbersCell (t .counts)) (getD (t .counts) countSubtypes 0) 0)
 
+-- the loads that can be taken back, the latest first
+abbrev pub traceOf : Tables → List Level
+traceOf t = stack (levelAt (t .counts)) (getD (t .counts) loadsCell 0)
+
 abbrev pub viewBase : Tables → Base
 viewBase t = baseOf (classRowsOf t) (keptOf t) (cacheOf t)
 
@@ -333,7 +376,7 @@ framesOf t k = stack (frameIn (t .frames) k) (getD (t .counts) (countFrames + k)
 
 -- the rows, where classes have the fields that b gives them
 unfoldable pub viewOver : Base → Tables → Rows
-viewOver b t = rowsOf (classRowsOf t) (keptOf t) (cacheOf t) (tiesOf t) (subtypesOf t) (objectsOf b t) (framesOf t 0) (framesOf t 1) (numbersOf t)
+viewOver b t = rowsOf (classRowsOf t) (keptOf t) (cacheOf t) (tiesOf t) (subtypesOf t) (objectsOf b t) (framesOf t 0) (framesOf t 1) (numbersOf t) (traceOf t)
 
 unfoldable pub view : Tables → Rows
 view t = viewOver (viewBase t) t
@@ -348,9 +391,12 @@ countsOf r =
 unfoldable pub putNumbers : RowNumbers → List ℕ → List ℕ
 putNumbers n c = writeRows (putNumber tieNumbersCell) (n .ties) 0 (writeRows (putNumber subtypeNumbersCell) (n .subtypes) 0 c)
 
+unfoldable pub putTrace : List Level → List ℕ → List ℕ
+putTrace ls c = writeStack putLevel ls (set c loadsCell (length ls))
+
 unfoldable pub put : Rows → Tables → Tables
 put r t = record {
-  counts = putNumbers (r .numbers) (writeRows putOwner (r .objects) 0 (writeRows set (countsOf r) 0 (t .counts)));
+  counts = putTrace (r .trace) (putNumbers (r .numbers) (writeRows putOwner (r .objects) 0 (writeRows set (countsOf r) 0 (t .counts))));
   classes = writeRows putClassRow (r .classes) 0 (t .classes);
   kept = writeRows set (r .kept) 0 (t .kept);
   cache = writeRows putEntry (r .cache) 0 (t .cache);

@@ -3,7 +3,7 @@ use mathlib.Core.List.{List, [], _∷_}
 use Prim.Native.Nat.{ℕ, _<_}
 use Rattle.definition.specs.Numbers.{byteRange, shortRange, intRange}
 use Rattle.definition.specs.Tables.{Tables}
-use Rattle.definition.specs.Calls.{Load, loadDefine, loadRecord, RowCall, rowDefine, rowRecord, rowStart, rowDrop, rowSweep, rowTry, Call, callBoot, callRows, callStep, callRun}
+use Rattle.definition.specs.Calls.{Load, loadDefine, loadRecord, RowCall, rowDefine, rowRecord, rowStart, rowDrop, rowSweep, rowTry, rowTakeBack, Call, callBoot, callRows, callStep, callRun}
 
 -- each number is below w
 abbrev pub EachBelow : ℕ → List ℕ → Type 0
@@ -33,6 +33,7 @@ FittingRows (rowStart k l n m v) = v < intRange
 FittingRows (rowDrop k) = Unit {0}
 FittingRows rowSweep = Unit {0}
 FittingRows (rowTry c n) = FittingLoad c
+FittingRows rowTakeBack = Unit {0}
 
 abbrev pub Fitting : Call → Type 0
 Fitting callBoot = Unit {0}

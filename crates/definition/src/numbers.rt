@@ -41,6 +41,8 @@ pub const WORD_DIVISOR: u8 = 17;
 
 pub const WORD_SHARE: u8 = 18;
 
+pub const WORD_LATE: u8 = 19;
+
 // Names: 0 is none; others than these are free.
 pub const NAME_INT: u16 = 1;
 
@@ -74,6 +76,8 @@ pub const OPERAND_LIMIT: u32 = 16;
 pub const LOCAL_COUNT: u8 = 8;
 // Steps of a run.
 pub const RUN_LIMIT: u32 = 65535;
+// Loads that can be taken back.
+pub const TRACE_LIMIT: u16 = 32;
 // The numbers that the list lent to a tried load has room for.
 pub const LIST_LIMIT: usize = 512;
 
@@ -114,6 +118,13 @@ pub const TIE_NUMBERS_CELL: usize = OWNERS_CELL + OBJECT_LIMIT as usize;
 
 pub const SUBTYPE_NUMBERS_CELL: usize = TIE_NUMBERS_CELL + TIE_LIMIT as usize;
 
+// Behind those, how many loads can be taken back, then the trace: for each of them, the oldest first, the first five counts before it.
+pub const LOADS_CELL: usize = SUBTYPE_NUMBERS_CELL + SUBTYPE_LIMIT as usize;
+
+pub const TRACE_CELL: usize = LOADS_CELL + 1;
+
+pub const LEVEL_CELLS: usize = 5;
+
 // Rows: cells of a row of classes, cache, ties and subtypes, and of a value.
 pub const ROW_CELLS: usize = 3;
 
@@ -138,7 +149,7 @@ pub const OPERANDS_CELL: usize = LOCALS_CELL + VALUE_CELLS * LOCAL_COUNT as usiz
 pub const FRAME_CELLS: usize = OPERANDS_CELL + VALUE_CELLS * OPERAND_LIMIT as usize;
 
 // The published lengths.
-pub const COUNTS_LENGTH: usize = SUBTYPE_NUMBERS_CELL + SUBTYPE_LIMIT as usize;
+pub const COUNTS_LENGTH: usize = TRACE_CELL + TRACE_LIMIT as usize * LEVEL_CELLS;
 
 pub const CLASSES_LENGTH: usize = CLASS_LIMIT as usize * ROW_CELLS;
 
@@ -173,7 +184,7 @@ pub const INT_RANGE: usize = 4294967296;
 pub const SIGN_BIT: u32 = 2147483648;
 
 // Every number above, in the order of their names in specs/Numbers.antt.
-pub fn all_numbers() -> [u64; 78]
+pub fn all_numbers() -> [u64; 83]
     ensures { λ r. ⌜ r ≡ allNumbers ⌝ }
 {
     [
@@ -195,6 +206,7 @@ pub fn all_numbers() -> [u64; 78]
         WORD_SHORT as u64,
         WORD_DIVISOR as u64,
         WORD_SHARE as u64,
+        WORD_LATE as u64,
         NAME_INT as u64,
         NAME_OBJECT as u64,
         LOADER_LIMIT as u64,
@@ -211,6 +223,7 @@ pub fn all_numbers() -> [u64; 78]
         OPERAND_LIMIT as u64,
         LOCAL_COUNT as u64,
         RUN_LIMIT as u64,
+        TRACE_LIMIT as u64,
         LIST_LIMIT as u64,
         VERSION_ONE as u64,
         VERSION_TWO as u64,
@@ -229,6 +242,9 @@ pub fn all_numbers() -> [u64; 78]
         OWNERS_CELL as u64,
         TIE_NUMBERS_CELL as u64,
         SUBTYPE_NUMBERS_CELL as u64,
+        LOADS_CELL as u64,
+        TRACE_CELL as u64,
+        LEVEL_CELLS as u64,
         ROW_CELLS as u64,
         VALUE_CELLS as u64,
         FIELDS_CELL as u64,

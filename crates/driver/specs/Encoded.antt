@@ -5,7 +5,7 @@ use Prim.Native.Nat.{ℕ, zero, suc, _+_, _*_, _/_}
 use lib.ListN.{length, getD}
 use lib.Dec.{eqb, leb}
 use Rattle.definition.specs.Instructions.{pick}
-use Rattle.definition.specs.Calls.{Call, callBoot, callDefine, callRecord, callStart, callStep, callRun, callDrop, callSweep, callTry, loadDefine, loadRecord}
+use Rattle.definition.specs.Calls.{Call, callBoot, callDefine, callRecord, callStart, callStep, callRun, callDrop, callSweep, callTry, callTakeBack, loadDefine, loadRecord}
 use Rattle.classfile.specs.Reading.{partOf}
 
 -- cells of a row of the list, and of an answer's row
@@ -40,7 +40,8 @@ callIn cells files i =
     (pick (eqb k 6) (some (callDrop (n 1)))
     (pick (eqb k 7) (some callSweep)
     (pick (eqb k 8) (pick (leb (n 2 + n 3) (length files)) (some (callTry (loadDefine (n 1) (fileIn cells files i)) (n 4))) none)
-    (pick (eqb k 9) (some (callTry (loadRecord (n 1) (n 2) (n 3)) (n 4))) none)))))))))
+    (pick (eqb k 9) (some (callTry (loadRecord (n 1) (n 2) (n 3)) (n 4)))
+    (pick (eqb k 10) (some callTakeBack) none))))))))))
 
 -- the calls of k rows from row i on, up to the first that has none
 unfoldable pub callsFrom : (ℕ → Option Call) → ℕ → ℕ → List Call

@@ -9,7 +9,7 @@ use lib.ListN.{length, getD, length-append}
 use lib.Seq.{take-append-seam, drop-append-seam, getD-append-add}
 use borrow.Author.Tests.{le-leb}
 use Rattle.definition.specs.Instructions.{pick}
-use Rattle.definition.specs.Calls.{rowDefine, rowRecord, rowStart, rowDrop, rowSweep, rowTry, loadDefine, loadRecord, Call, callBoot, callRows, callDefine, callStep, callRun, callTry}
+use Rattle.definition.specs.Calls.{rowDefine, rowRecord, rowStart, rowDrop, rowSweep, rowTry, rowTakeBack, loadDefine, loadRecord, Call, callBoot, callRows, callDefine, callStep, callRun, callTry}
 use Rattle.layout.specs.Tests.{All}
 use Rattle.classfile.specs.Searches.{part-there}
 use Rattle.driver.specs.Encoded.{kindIn, cellIn, fileIn, callIn, callsFrom, callsIn}
@@ -24,6 +24,7 @@ fileOf callStep = []
 fileOf (callRun n) = []
 fileOf (callRows (rowDrop k)) = []
 fileOf (callRows rowSweep) = []
+fileOf (callRows rowTakeBack) = []
 fileOf (callRows (rowTry (loadDefine l bs) n)) = bs
 fileOf (callRows (rowTry (loadRecord l m c) n)) = []
 
@@ -36,6 +37,7 @@ rowOf callStep s = 4 ∷ 0 ∷ 0 ∷ 0 ∷ 0 ∷ 0 ∷ []
 rowOf (callRun n) s = 5 ∷ n ∷ 0 ∷ 0 ∷ 0 ∷ 0 ∷ []
 rowOf (callRows (rowDrop k)) s = 6 ∷ k ∷ 0 ∷ 0 ∷ 0 ∷ 0 ∷ []
 rowOf (callRows rowSweep) s = 7 ∷ 0 ∷ 0 ∷ 0 ∷ 0 ∷ 0 ∷ []
+rowOf (callRows rowTakeBack) s = 10 ∷ 0 ∷ 0 ∷ 0 ∷ 0 ∷ 0 ∷ []
 rowOf (callRows (rowTry (loadDefine l bs) n)) s = 8 ∷ l ∷ s ∷ length bs ∷ n ∷ 0 ∷ []
 rowOf (callRows (rowTry (loadRecord l m c) n)) s = 9 ∷ l ∷ m ∷ c ∷ n ∷ 0 ∷ []
 
@@ -57,6 +59,7 @@ Named callStep = Unit {0}
 Named (callRun n) = Unit {0}
 Named (callRows (rowDrop k)) = Unit {0}
 Named (callRows rowSweep) = Unit {0}
+Named (callRows rowTakeBack) = Unit {0}
 Named (callRows (rowTry c n)) = Unit {0}
 
 -- a row behind i others
@@ -122,6 +125,7 @@ module _ (xs : List ℕ) (i : ℕ) (behind : length xs ≡ i * 6) where
       let ys : List ℕ = 6 ∷ k ∷ 0 ∷ 0 ∷ 0 ∷ 0 ∷ rest in
       rw (kind-at ys, cell-at ys 1)
   row-read (callRows rowSweep) h fs rest more = rw (kind-at (7 ∷ 0 ∷ 0 ∷ 0 ∷ 0 ∷ 0 ∷ rest))
+  row-read (callRows rowTakeBack) h fs rest more = rw (kind-at (10 ∷ 0 ∷ 0 ∷ 0 ∷ 0 ∷ 0 ∷ rest))
   row-read (callRows (rowTry (loadDefine l bs) n)) h fs rest more = try-define-read l bs n fs rest more
   row-read (callRows (rowTry (loadRecord l m c) n)) h fs rest more =
       let ys : List ℕ = 9 ∷ l ∷ m ∷ c ∷ n ∷ 0 ∷ rest in
@@ -137,6 +141,7 @@ row-length callStep s = refl
 row-length (callRun n) s = refl
 row-length (callRows (rowDrop k)) s = refl
 row-length (callRows rowSweep) s = refl
+row-length (callRows rowTakeBack) s = refl
 row-length (callRows (rowTry (loadDefine l bs) n)) s = refl
 row-length (callRows (rowTry (loadRecord l m c) n)) s = refl
 

@@ -3,7 +3,7 @@ use mathlib.Core.List.{List, [], _∷_}
 use Prim.Native.Nat.{ℕ, _+_, _<_}
 use native.Mathlib.Omega.{arith}
 use lib.ListN.{length, length-append}
-use Rattle.definition.specs.Calls.{rowDefine, rowRecord, rowStart, rowDrop, rowSweep, rowTry, loadDefine, loadRecord, Call, callBoot, callRows, callStep, callRun}
+use Rattle.definition.specs.Calls.{rowDefine, rowRecord, rowStart, rowDrop, rowSweep, rowTry, rowTakeBack, loadDefine, loadRecord, Call, callBoot, callRows, callStep, callRun}
 use Rattle.definition.specs.Widths.{EachBelow, Fitting}
 use Rattle.layout.specs.Tests.{All}
 use Rattle.widths.specs.Below.{below-both}
@@ -19,6 +19,7 @@ Narrow callStep = Unit {0}
 Narrow (callRun n) = n < 4294967296
 Narrow (callRows (rowDrop k)) = k < 4294967296
 Narrow (callRows rowSweep) = Unit {0}
+Narrow (callRows rowTakeBack) = Unit {0}
 Narrow (callRows (rowTry (loadDefine l bs) n)) = (l < 4294967296) × (n < 4294967296)
 Narrow (callRows (rowTry (loadRecord l m c) n)) = (l < 4294967296) × (m < 4294967296) × (c < 4294967296) × (n < 4294967296)
 
@@ -32,6 +33,7 @@ row-fits callStep s n h = (omega arith, (omega arith, (omega arith, (omega arith
 row-fits (callRun m) s n h = (omega arith, (n, (omega arith, (omega arith, (omega arith, (omega arith, tt))))))
 row-fits (callRows (rowDrop k)) s n h = (omega arith, (n, (omega arith, (omega arith, (omega arith, (omega arith, tt))))))
 row-fits (callRows rowSweep) s n h = (omega arith, (omega arith, (omega arith, (omega arith, (omega arith, (omega arith, tt))))))
+row-fits (callRows rowTakeBack) s n h = (omega arith, (omega arith, (omega arith, (omega arith, (omega arith, (omega arith, tt))))))
 row-fits (callRows (rowTry (loadDefine l bs) k)) s n h = (omega arith, (n .0, (omega arith, (omega arith, (n .1, (omega arith, tt))))))
 row-fits (callRows (rowTry (loadRecord l m c) k)) s n h = (omega arith, (n .0, (n .1, (n .2, (n .3, (omega arith, tt))))))
 
@@ -56,6 +58,7 @@ file-fits callStep f = tt
 file-fits (callRun n) f = tt
 file-fits (callRows (rowDrop k)) f = tt
 file-fits (callRows rowSweep) f = tt
+file-fits (callRows rowTakeBack) f = tt
 file-fits (callRows (rowTry (loadDefine l bs) n)) f = f
 file-fits (callRows (rowTry (loadRecord l m c) n)) f = tt
 

@@ -191,6 +191,7 @@ fn read_row(list: &[u32], files: &[u8], i: usize) -> Row
         7 => Row::Readable(Call::Sweep),
         8 => read_try(first, list[at + 2], list[at + 3], list[at + 4], files.len()),
         9 => Row::Readable(Call::TryRecord(first, list[at + 2], list[at + 3], list[at + 4])),
+        10 => Row::Readable(Call::TakeBack),
         _ => Row::Unreadable,
     }
 }

@@ -16,24 +16,23 @@ use Rattle.definition.specs.Requests.{Request, at}
 use Rattle.definition.specs.Classes.{Base, Class, Entry, superOf, find, lower}
 use Rattle.definition.specs.Constraints.{World}
 use Rattle.definition.specs.declared.Check.{Check}
-use Rattle.definition.specs.Checks.{NamesOver, Names}
-use Rattle.definition.specs.Loading.{withEntry}
-use Rattle.definition.specs.Numbers.{tieNumbersCell, subtypeNumbersCell}
-use Rattle.definition.specs.Tables.{RowNumbers, rowNumbers, putThree, entry, entryAt, putEntry, tieAt, subtypeAt, numberAt, classRowAt}
+use Rattle.definition.specs.Checks.{NamesOver}
+use Rattle.definition.specs.Numbers.{countsLength}
+use Rattle.definition.specs.Tables.{RowNumbers, putThree, entry, entryAt, putEntry, tieAt, subtypeAt, classRowAt}
 use Rattle.definition.specs.Broken.{numbered}
 use Rattle.definition.specs.Reasons.{tieLinks, subtypeLinks, reasonOver, reason}
 use Rattle.laws.specs.Agreement.{super-falls, find-more}
 use Rattle.laws.specs.Earlier.{rowBefore}
-use Rattle.layout.specs.Places.{rows-getD, rows-cong, rows-length, writeRows-length}
+use Rattle.layout.specs.Places.{rows-getD, rows-length, writeRows-length}
 use Rattle.layout.specs.Cells.{entry-rows, rows-after-last}
 use Rattle.resolution.specs.Quick.{quickClass, quickBase}
 use Rattle.resolution.specs.Lookups.{superCell, cell-none, cell-some}
-use Rattle.constraints.specs.Agreement.{superIn, entriesIn, tiesIn, edgesIn, newOf, newIn}
+use Rattle.constraints.specs.Agreement.{superIn, newOf, newIn}
 use Rattle.laws.specs.Options.{nth-last}
 use Rattle.rows.specs.Numbers.{numbersFit}
 use Rattle.constraints.specs.Linking.{reasonIn}
-use Rattle.constraints.specs.Laws.{within, names-store}
-use Rattle.entries.specs.World.{worldIn, numbersIn, baseWith, Searchable, Loadable}
+use Rattle.constraints.specs.Laws.{within}
+use Rattle.entries.specs.World.{numbersIn, baseWith, Searchable}
 use Rattle.entries.specs.Entering.{Entered}
 use Rattle.entries.proofs.Laws.{written-front, copied}
 
@@ -153,24 +152,13 @@ module _ (counts classes kept cache : List ℕ) (ready : Searchable counts class
       ∙ (getD-set-same (writeRows set counts 0 zeros) 2 ((getD counts 2 0 + 1) % 65536) 0 (omega (arith, writeRows-length set length-set counts 0 zeros)) ∙ z)
 
   -- all of them, where there is room
-  pub counted-is : size ≡ 776 → counted ≡ set counts 2 (getD counts 2 0 + 1)
+  pub counted-is : size ≡ countsLength → counted ≡ set counts 2 (getD counts 2 0 + 1)
   counted-is nz =
       let z : (getD counts 2 0 + 1) % 65536 ≡ getD counts 2 0 + 1 = omega arith in
       tried .count ∙ (λ i. set (copied counts zeros (ready .countsLong ∙ sym (nl ∙ nz)) i) 2 (z i))
 
-  pub counted-other : size ≡ 776 → (j : ℕ) → (j ≡ 2 → ⊥) → getD counted j 0 ≡ getD counts j 0
+  pub counted-other : size ≡ countsLength → (j : ℕ) → (j ≡ 2 → ⊥) → getD counted j 0 ≡ getD counts j 0
   counted-other nz j h = ap (λ (x : List ℕ). getD x j 0) (counted-is nz) ∙ getD-set-other counts 2 j (getD counts 2 0 + 1) 0 h
-
-  counted-numbers : size ≡ 776 → numbersIn counted ≡ numbersIn counts
-  unfolding numberAt
-  counted-numbers nz =
-      let e3 : getD counted 3 0 ≡ getD counts 3 0 = counted-other nz 3 (λ e. omega arith) in
-      let e4 : getD counted 4 0 ≡ getD counts 4 0 = counted-other nz 4 (λ e. omega arith) in
-      λ x. rowNumbers
-      ((ap (λ (y : ℕ). rows (numberAt tieNumbersCell counted) y 0) e3
-      ∙ rows-cong (numberAt tieNumbersCell counted) (numberAt tieNumbersCell counts) (getD counts 3 0) 0 (λ i a h. counted-other nz (tieNumbersCell + i) (λ e. omega arith))) x)
-      ((ap (λ (y : ℕ). rows (numberAt subtypeNumbersCell counted) y 0) e4
-      ∙ rows-cong (numberAt subtypeNumbersCell counted) (numberAt subtypeNumbersCell counts) (getD counts 4 0) 0 (λ i a h. counted-other nz (subtypeNumbersCell + i) (λ e. omega arith))) x)
 
   trial-is : trial ≡ putThree cache (getD counts 2 0) l m c
   trial-is = tried .row ∙ ap (λ (x : List ℕ). putThree x (getD counts 2 0) l m c) (copied cache blank (ready .cacheLong ∙ sym el))
@@ -183,7 +171,7 @@ module _ (counts classes kept cache : List ℕ) (ready : Searchable counts class
   unfolding quickBase
   classes-few = rows-length (λ c. quickClass kept (classRowAt classes c)) (getD counts 0 0) 0
 
-  entries-are : (n : ℕ) → n ≡ getD counted 2 0 → (n ≤ 256) × (rows (entryAt trial) n 0 ≡ more .cache)
+  pub entries-are : (n : ℕ) → n ≡ getD counted 2 0 → (n ≤ 256) × (rows (entryAt trial) n 0 ≡ more .cache)
   unfolding quickBase
   entries-are n h =
       let z : n ≡ getD counts 2 0 + 1 = h ∙ counted-entries in
@@ -198,7 +186,7 @@ module _ (counts classes kept cache : List ℕ) (ready : Searchable counts class
       (λ i. entryAt (trial-is i) (ew i)) ∙ entry-rows .back cache (getD counts 2 0) (entry l m c) (omega (arith, ready .cacheLong)) tt in
       rw (within 256 n (entries-are n en .0), lt-ltb new n (omega arith), newOf) (ap (λ (e : Entry). some (e .request)) row)
 
-  new-named : {sup : ℕ → Option ℕ} {es : List Entry} {ts ls : List (Edge Request)} {r : Check} (n new : ℕ) → n ≡ getD counted 2 0 → new ≡ getD counts 2 0
+  pub new-named : {sup : ℕ → Option ℕ} {es : List Entry} {ts ls : List (Edge Request)} {r : Check} (n new : ℕ) → n ≡ getD counted 2 0 → new ≡ getD counts 2 0
       → NamesOver sup es ts ls (newIn trial n new) r → NamesOver sup es ts ls (some (at l m)) r
   new-named {sup} {es} {ts} {ls} {r} n new en ew h = subst (λ (o : Option Request). NamesOver sup es ts ls o r) (new-is n new en ew) h
 
@@ -208,30 +196,8 @@ module _ (counts classes kept cache : List ℕ) (ready : Searchable counts class
         s ∙ (copied (rows (superCell (quickBase counted classes kept trial)) 64 0) empty (rows-length (superCell (quickBase counted classes kept trial)) 64 0 ∙ sym long)
         ∙ ap (λ (x : Base). rows (superCell x) 64 0) base-more)
 
-    supers-are : (x : ℕ) → superIn supers x ≡ superOf more x
+    pub supers-are : (x : ℕ) → superIn supers x ≡ superOf more x
     supers-are x = ap (λ (y : List ℕ). superIn y x) supers-filled ∙ supers-in more (omega (arith, ready .classesFew, classes-few)) x
-
-    -- record
-    pub entry-named : (ties subtypes : List ℕ) (n i j new : ℕ) (r : Check) → Loadable counts classes kept cache ties subtypes → n ≡ getD counted 2 0
-        → i ≡ getD counts 3 0 → j ≡ getD counts 4 0 → new ≡ getD counts 2 0
-        → NamesOver (superIn supers) (entriesIn trial n) (tiesIn ties i) (edgesIn ties i subtypes j) (newIn trial n new) r
-        → Names (withEntry (worldIn counts classes kept cache ties subtypes) (at l m) c) (some (at l m)) r
-    entry-named ties subtypes n i j new r ld en ei ej ew h =
-        let f = entries-are n en in
-        names-store (withEntry (worldIn counts classes kept cache ties subtypes) (at l m) c) supers trial ties subtypes n i j (some (at l m)) r supers-are (sym (f .1))
-        (ap (λ (x : ℕ). rows (tieAt ties) x 0) (sym ei)) (ap (λ (x : ℕ). rows (subtypeAt subtypes) x 0) (sym ej)) (f .0) (omega (arith, ld .tiesFew)) (omega (arith, ld .subtypesFew))
-        (new-named n new en ew h)
-
-    -- where all counts are copied, with the rows' numbers
-    pub entry-reasoned : (ties subtypes : List ℕ) → size ≡ 776 → Loadable counts classes kept cache ties subtypes → numbered (numbersIn counts) ≡ true
-        → reasonIn supers counted trial ties subtypes ≡ reason (withEntry (worldIn counts classes kept cache ties subtypes) (at l m) c) (numbersIn counts)
-    entry-reasoned ties subtypes nz ld turn =
-        let f = entries-are (getD counted 2 0) refl in
-        let e3 : getD counted 3 0 ≡ getD counts 3 0 = counted-other nz 3 (λ e. omega arith) in
-        let e4 : getD counted 4 0 ≡ getD counts 4 0 = counted-other nz 4 (λ e. omega arith) in
-        reason-store (withEntry (worldIn counts classes kept cache ties subtypes) (at l m) c) (numbersIn counts) supers counted trial ties subtypes supers-are (sym (f .1))
-        (ap (λ (x : ℕ). rows (tieAt ties) x 0) (sym e3)) (ap (λ (x : ℕ). rows (subtypeAt subtypes) x 0) (sym e4)) (sym (counted-numbers nz))
-        (f .0) (omega (arith, ld .tiesFew)) (omega (arith, ld .subtypesFew)) turn
 
     -- define: a class k more, below p, whose cell says so
     module _ (k : Class) (p o : ℕ) (above : List ℕ) (few : getD counts 0 0 < 64) (kl : l ≡ k .loader) (km : m ≡ k .name) (kc : c ≡ getD counts 0 0) (ko : o ≡ c)
@@ -239,12 +205,12 @@ module _ (counts classes kept cache : List ℕ) (ready : Searchable counts class
       class-is : c ≡ length (b .classes)
       class-is = kc ∙ sym classes-few
 
-      cache-is : more .cache ≡ baseWith b k .cache
+      pub cache-is : more .cache ≡ baseWith b k .cache
       cache-is =
           let row : _≡_ {A = Entry} (entry l m c) (entry (k .loader) (k .name) (length (b .classes))) = λ x. entry (kl x) (km x) (class-is x) in
           ap (λ (x : Entry). b .cache ++ (x ∷ [])) row
 
-      above-are : (x : ℕ) → superIn above x ≡ superOf (baseWith b k) x
+      pub above-are : (x : ℕ) → superIn above x ≡ superOf (baseWith b k) x
       above-are x =
           let t : above ≡ set supers (length (b .classes)) (p + 1) = ka ∙ ap (λ (x : ℕ). set supers x (p + 1)) (ko ∙ class-is) in
           let less : p < length (b .classes) = omega (arith, ready .cached (at (k .loader) (k .super)) p super, classes-few) in
@@ -254,21 +220,3 @@ module _ (counts classes kept cache : List ℕ) (ready : Searchable counts class
           ap (λ (y : List ℕ). superIn y x) t
           ∙ supers-more (b .classes) (baseWith b k .cache) k p supers (omega (arith, long64, classes-few)) less
           (find-more (b .cache) (entry (k .loader) (k .name) (length (b .classes)) ∷ []) (at (k .loader) (k .super)) p super) old x
-
-      pub class-named : (ties subtypes : List ℕ) (n i j new : ℕ) (r : Check) → i ≤ 256 → j ≤ 256 → n ≡ getD counted 2 0 → new ≡ getD counts 2 0
-          → NamesOver (superIn above) (entriesIn trial n) (tiesIn ties i) (edgesIn ties i subtypes j) (newIn trial n new) r
-          → Names (record { base = baseWith b k; ties = rows (tieAt ties) i 0; subtypes = rows (subtypeAt subtypes) j 0 }) (some (at (k .loader) (k .name))) r
-      class-named ties subtypes n i j new r hi hj en ew h =
-          let f = entries-are n en in
-          names-store (record { base = baseWith b k; ties = rows (tieAt ties) i 0; subtypes = rows (subtypeAt subtypes) j 0 }) above trial ties subtypes n i j (some (at (k .loader) (k .name))) r
-          above-are (sym (f .1 ∙ cache-is)) refl refl (f .0) hi hj (rw (kl, km) at (new-named n new en ew h))
-
-      -- by counts that say how many rows there are and what numbers they have
-      pub class-reasoned : (now ties subtypes : List ℕ) (i j : ℕ) (q : RowNumbers) → i ≤ 256 → j ≤ 256 → getD now 2 0 ≡ getD counted 2 0 → getD now 3 0 ≡ i
-          → getD now 4 0 ≡ j → q ≡ numbersIn now → numbered q ≡ true
-          → reasonIn above now trial ties subtypes ≡ reason (record { base = baseWith b k; ties = rows (tieAt ties) i 0; subtypes = rows (subtypeAt subtypes) j 0 }) q
-      class-reasoned now ties subtypes i j q hi hj e2 e3 e4 eq turn =
-          let f = entries-are (getD now 2 0) e2 in
-          reason-store (record { base = baseWith b k; ties = rows (tieAt ties) i 0; subtypes = rows (subtypeAt subtypes) j 0 }) q above now trial ties subtypes
-          above-are (sym (f .1 ∙ cache-is)) (ap (λ (x : ℕ). rows (tieAt ties) x 0) (sym e3)) (ap (λ (x : ℕ). rows (subtypeAt subtypes) x 0) (sym e4)) eq
-          (f .0) (omega arith) (omega arith) turn

@@ -7,7 +7,7 @@ use mathlib.Core.List.{List, [], _∷_, _++_}
 use Prim.Native.Nat.{ℕ, _≤_, _<_}
 use native.Mathlib.Omega.{arith}
 use lib.ListN.{length, getD}
-use Rattle.definition.specs.Numbers.{tieNumbersCell, subtypeNumbersCell}
+use Rattle.definition.specs.Numbers.{tieNumbersCell, subtypeNumbersCell, countsLength}
 use Rattle.definition.specs.Lists.{rows}
 use Rattle.definition.specs.Requests.{Request, at}
 use Rattle.definition.specs.Classes.{Base, Class, find, loaderOf}
@@ -54,7 +54,7 @@ quick-world t h =
 -- What a decision asks of the tables that it reads: lengths, counts within their limits, loaders that are there, cached classes that are there
 
 pub record Searchable (counts classes kept cache : List ℕ) : Type 0 where
-  pub countsLong : length counts ≡ 776
+  pub countsLong : length counts ≡ countsLength
   pub cacheLong : length cache ≡ 768
   pub classesFew : getD counts 0 0 ≤ 64
   pub keptFew : getD counts 1 0 ≤ 16384

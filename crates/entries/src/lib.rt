@@ -1,7 +1,10 @@
-// Cells and rows written one after another, and a cache with one more entry on copies: what every call that loads goes by.
+// Cells and rows written one after another, a cache with one more entry on copies, and the trace of loads: what every call that loads goes by.
+mod trace; // trace.rt: a load remembered
+
 use definition::Reply;
 use definition::Trial;
 use definition::numbers::COUNT_CACHE;
+pub use trace::remember;
 ghost use mathlib.Core.Path.{_≡_};
 ghost use mathlib.Core.List.{List};
 ghost use Prim.Native.Nat.{ℕ, _+_, _-_, _<_, _≤_};

@@ -1,7 +1,7 @@
 -- What carrying a plan out writes: the ties that are posted, with their numbers, a field or an object's row with its owner, cells of the task's frames, and their counts. Nothing is
 -- asked of the tables but that task k has m frames below its top frame.
 use mathlib.Core.Path.{_≡_, refl, sym, ap, _∙_}
-use mathlib.Core.Bool.{true}
+use mathlib.Core.Bool.{Bool, true, false, false≢true}
 use mathlib.Core.Option.{Option, none, some}
 use mathlib.Core.List.{List, [], _∷_, map}
 use Prim.Native.Nat.{ℕ, suc, _+_, _-_, _<_, _≤_}
@@ -10,15 +10,15 @@ use lib.ListN.{length, getD, set, length-map}
 use lib.Seq.{set-getD, getD-set-other}
 use Rattle.definition.specs.declared.Refusal.{Refusal}
 use Rattle.definition.specs.declared.Answer.{Answer}
-use Rattle.definition.specs.declared.Answer.the-variants.{Ran, Finished, Refused}
+use Rattle.definition.specs.declared.Answer.the-variants.{Idle, Ran, Finished, Refused}
 use Rattle.definition.specs.Answers.{_>>=_, take?}
-use Rattle.definition.specs.Numbers.{tieNumbersCell}
+use Rattle.definition.specs.Numbers.{tieNumbersCell, loadsCell}
 use Rattle.definition.specs.Lists.{rows, writeRows, stack}
 use Rattle.definition.specs.Classes.{Base, Slot, slots}
 use Rattle.definition.specs.Constraints.{Tie, posted}
 use Rattle.definition.specs.Machine.{Value, objectValue, emptyValue, Objects, Frame, unused, made, newObject, entryFrame, Progress, give, initialValue}
 use Rattle.definition.specs.Tables.{Tables, tables, putTie, putNumber, valueOf, objectAt, putObject, putField, sizeOf, usedFields, operandAt, putOperand, putLocal, frameOf, putFrame, frameBase, frameIn, objectsOf, viewOver, put}
-use Rattle.definition.specs.Calls.{numbersFrom, given, progressed, answerOf, Done, done, carried}
+use Rattle.definition.specs.Calls.{numbersFrom, given, closed, progressed, answerOf, Done, done, carried}
 use Rattle.laws.specs.Arguments.{filled-length}
 use Rattle.layout.specs.Places.{rows-map, stack-top}
 use Rattle.layout.specs.Cells.{rows-back, cell-rows, moved}
@@ -42,11 +42,38 @@ unfoldable pub planned : Base → Tables → ℕ → ℕ → ℕ → List Tie �
 planned B t k m q us p =
     carried Refused t
     (meaning k (posted (worldIn B t) us) (objectsOf B t) (stack (frameIn (t .frames) k) m) (t .frames) (frameBase k m) q p
-    >>= λ o. given (answerOf k (o .result)) (progressed k (viewOver B t) o))
+    >>= λ o. given (answerOf k (o .result)) (closed (progressed k (viewOver B t) o)))
 
 -- the ties us, posted behind the rows of the counts N, get the next numbers; these are written last
 abbrev pub numberedTies : List ℕ → List Tie → List ℕ → List ℕ
 numberedTies N us x = writeRows (putNumber tieNumbersCell) (numbersFrom (getD N 3 0 + getD N 4 0) (length us)) (getD N 3 0) x
+
+-- a step that ran or finished closes the loads before it; of the counts that is one cell
+abbrev pub closedBy : Answer → List ℕ → List ℕ
+closedBy Idle x = x
+closedBy (Ran k) x = set x loadsCell 0
+closedBy (Finished k n) x = set x loadsCell 0
+closedBy (Refused w) x = x
+
+unfoldable pub wentOn : Answer → Bool
+wentOn Idle = false
+wentOn (Ran k) = true
+wentOn (Finished k n) = true
+wentOn (Refused w) = false
+
+pub closed-on : (a : Answer) (x : List ℕ) → wentOn a ≡ true → set x loadsCell 0 ≡ closedBy a x
+unfolding wentOn
+closed-on Idle x h = absurd (false≢true h)
+closed-on (Ran k) x h = refl
+closed-on (Finished k n) x h = refl
+closed-on (Refused w) x h = absurd (false≢true h)
+
+pub closed-not : (a : Answer) (x : List ℕ) → wentOn a ≡ false → x ≡ closedBy a x
+unfolding wentOn
+closed-not Idle x h = refl
+closed-not (Ran k) x h = absurd (false≢true (sym h))
+closed-not (Finished k n) x h = absurd (false≢true (sym h))
+closed-not (Refused w) x h = refl
 
 -- what carrying out asks: task k has m frames below its top frame, whose row begins at cell b; ties and plan have room
 pub record Ready (B : Base) (t : Tables) (k m b : ℕ) (us : List Tie) (p : Plan) : Type 0 where
@@ -60,7 +87,7 @@ pub record Ready (B : Base) (t : Tables) (k m b : ℕ) (us : List Tie) (p : Plan
 
 -- The tables after ties were posted, and then n frames of task k and m objects counted
 
-module _ (B : Base) (t : Tables) (k m q : ℕ) (us : List Tie) (two : k < 2) where
+module _ (B : Base) (t : Tables) (k m q : ℕ) (us : List Tie) (two : k < 2) (room : countAt t 3 + length us ≤ 256) where
   abbrev counts : List ℕ
   counts = set (t .counts) 3 (countAt t 3 + length us)
 
@@ -72,10 +99,10 @@ module _ (B : Base) (t : Tables) (k m q : ℕ) (us : List Tie) (two : k < 2) whe
 
   -- objects as many as before
   same-objects : (os : Objects) (fs : List Frame) (x : Option ℕ) (n : ℕ) (o u : List ℕ) → FillsObjects os (t .counts) (t .objects) (countAt t 5) (λ d. d) o → FillsTask k fs t n u
-      → put (progressed k (viewOver B t) (leaves os fs x)) t ≡ tables (numberedTies (t .counts) us (set counts (6 + k) n)) (t .classes) (t .kept) (t .cache) ties (t .subtypes) o u
+      → put (closed (progressed k (viewOver B t) (leaves os fs x))) t ≡ tables (set (numberedTies (t .counts) us (set counts (6 + k) n)) loadsCell 0) (t .classes) (t .kept) (t .cache) ties (t .subtypes) o u
   same-objects os fs x n o u g h =
-      progress-writes B t k (leaves os fs x) us (countAt t 5) n (λ d. d) o u two refl g h
-      ∙ ap (λ z. tables (numberedTies (t .counts) us (set z (6 + k) n)) (t .classes) (t .kept) (t .cache) ties (t .subtypes) o u) five
+      progress-writes B t k (leaves os fs x) us (countAt t 5) n (λ d. d) o u two room refl g h
+      ∙ ap (λ z. tables (set (numberedTies (t .counts) us (set z (6 + k) n)) loadsCell 0) (t .classes) (t .kept) (t .cache) ties (t .subtypes) o u) five
     where
       five : set counts 5 (countAt t 5) ≡ counts
       five = rw (← getD-set-other (t .counts) 3 5 (countAt t 3 + length us) 0 (λ e. omega arith)) (set-getD counts 5 0)
@@ -85,9 +112,9 @@ module _ (B : Base) (t : Tables) (k m q : ℕ) (us : List Tie) (two : k < 2) whe
   frame-count n e = rw (← e, ← getD-set-other (t .counts) 3 (6 + k) (countAt t 3 + length us) 0 (λ z. omega arith)) (set-getD counts (6 + k) 0)
 
   top-frame : (os : Objects) (fs : List Frame) (o u : List ℕ) → countAt t (6 + k) ≡ suc m → FillsObjects os (t .counts) (t .objects) (countAt t 5) (λ d. d) o → FillsTask k fs t (suc m) u
-      → put (progressed k (viewOver B t) (leaves os fs none)) t ≡ tables (numberedTies (t .counts) us counts) (t .classes) (t .kept) (t .cache) ties (t .subtypes) o u
+      → put (closed (progressed k (viewOver B t) (leaves os fs none))) t ≡ tables (set (numberedTies (t .counts) us counts) loadsCell 0) (t .classes) (t .kept) (t .cache) ties (t .subtypes) o u
   top-frame os fs o u e g h =
-      same-objects os fs none (suc m) o u g h ∙ ap (λ z. tables (numberedTies (t .counts) us z) (t .classes) (t .kept) (t .cache) ties (t .subtypes) o u) (frame-count (suc m) e)
+      same-objects os fs none (suc m) o u g h ∙ ap (λ z. tables (set (numberedTies (t .counts) us z) loadsCell 0) (t .classes) (t .kept) (t .cache) ties (t .subtypes) o u) (frame-count (suc m) e)
 
 -- What each plan leaves: C and I are the counts and the ties where the ties us were posted, b is where the top frame's row begins
 
@@ -106,73 +133,73 @@ module _ (B : Base) (N L K E I S O F : List ℕ) (k m b q : ℕ) (us : List Tie)
       let z : getD N 3 0 + 0 ≡ getD N 3 0 = omega arith in
       rw (e, c, j, h, z, set-getD N 3 0)
 
-  pub out-keep : (d : ℕ) (G : List ℕ) → p ≡ Keep d → G ≡ moved F b q d → done (Ran k) (tables (numberedTies N us C) L K E J S O G) ≡ plans
+  pub out-keep : (d : ℕ) (G : List ℕ) → p ≡ Keep d → G ≡ moved F b q d → done (Ran k) (tables (set (numberedTies N us C) loadsCell 0) L K E J S O G) ≡ plans
   unfolding planned meaning _>>=_ carried answerOf
   out-keep d G e g =
       rw (e, c, j, g, r .row)
-      (ap (done (Ran k)) (sym (top-frame B before k m q us (r .two) (objectsOf B before) (frameOf F (frameBase k m) q d ∷ stack (frameIn F k) m) O
+      (ap (done (Ran k)) (sym (top-frame B before k m q us (r .two) (r .ties) (objectsOf B before) (frameOf F (frameBase k m) q d ∷ stack (frameIn F k) m) O
       (moved F (frameBase k m) q d) (r .count) (objects-fill before B) (top-kept before k m (r .low) q d))))
 
-  pub out-jump : (d x : ℕ) (G : List ℕ) → p ≡ Jump d x → G ≡ moved F b x d → done (Ran k) (tables (numberedTies N us C) L K E J S O G) ≡ plans
+  pub out-jump : (d x : ℕ) (G : List ℕ) → p ≡ Jump d x → G ≡ moved F b x d → done (Ran k) (tables (set (numberedTies N us C) loadsCell 0) L K E J S O G) ≡ plans
   unfolding planned meaning _>>=_ carried answerOf
   out-jump d x G e g =
       rw (e, c, j, g, r .row)
-      (ap (done (Ran k)) (sym (top-frame B before k m q us (r .two) (objectsOf B before) (frameOf F (frameBase k m) x d ∷ stack (frameIn F k) m) O
+      (ap (done (Ran k)) (sym (top-frame B before k m q us (r .two) (r .ties) (objectsOf B before) (frameOf F (frameBase k m) x d ∷ stack (frameIn F k) m) O
       (moved F (frameBase k m) x d) (r .count) (objects-fill before B) (top-kept before k m (r .low) x d))))
 
   pub out-above : (d : ℕ) (v : Cell) (G : List ℕ) → p ≡ Above d v → G ≡ putOperand b (moved F b q (d + 1)) d (valueOf (v .kind) (v .bits))
-      → done (Ran k) (tables (numberedTies N us C) L K E J S O G) ≡ plans
+      → done (Ran k) (tables (set (numberedTies N us C) loadsCell 0) L K E J S O G) ≡ plans
   unfolding planned meaning _>>=_ carried answerOf
   out-above d v G e g =
       let f : d < 16 = rw e at (r .fits) in
       rw (e, c, j, g, r .row)
-      (ap (done (Ran k)) (sym (top-frame B before k m q us (r .two) (objectsOf B before) _ O
+      (ap (done (Ran k)) (sym (top-frame B before k m q us (r .two) (r .ties) (objectsOf B before) _ O
       (putOperand (frameBase k m) (moved F (frameBase k m) q (d + 1)) d (valueOf (v .kind) (v .bits))) (r .count) (objects-fill before B) (top-above before k m (r .low) q d (valueOf (v .kind) (v .bits)) f))))
 
   pub out-local : (d i : ℕ) (v : Cell) (G : List ℕ) → p ≡ Local d i v → G ≡ putLocal b (moved F b q d) i (valueOf (v .kind) (v .bits))
-      → done (Ran k) (tables (numberedTies N us C) L K E J S O G) ≡ plans
+      → done (Ran k) (tables (set (numberedTies N us C) loadsCell 0) L K E J S O G) ≡ plans
   unfolding planned meaning _>>=_ carried answerOf
   out-local d i v G e g =
       let f : i < 8 = rw e at (r .fits) in
       rw (e, c, j, g, r .row)
-      (ap (done (Ran k)) (sym (top-frame B before k m q us (r .two) (objectsOf B before) _ O
+      (ap (done (Ran k)) (sym (top-frame B before k m q us (r .two) (r .ties) (objectsOf B before) _ O
       (putLocal (frameBase k m) (moved F (frameBase k m) q d) i (valueOf (v .kind) (v .bits))) (r .count) (objects-fill before B) (top-local before k m (r .low) q d i (valueOf (v .kind) (v .bits)) f))))
 
   pub out-field : (d o i : ℕ) (v : Cell) (G P : List ℕ) → p ≡ Field d o i v → G ≡ moved F b q d → P ≡ putField o O i (valueOf (v .kind) (v .bits))
-      → done (Ran k) (tables (numberedTies N us C) L K E J S P G) ≡ plans
+      → done (Ran k) (tables (set (numberedTies N us C) loadsCell 0) L K E J S P G) ≡ plans
   unfolding planned meaning _>>=_ carried answerOf take?
   out-field d o i v G P e g h =
       let f : (isUsed N o ≡ true) × (i < usedFields B (objectAt B O o .class)) = rw e at (r .fits) in
       let l = used-row N o (f .0) in
       rw (e, c, j, g, h, r .row, used-there B before o (f .0))
-      (ap (done (Ran k)) (sym (top-frame B before k m q us (r .two) _ _ (putField o O i (valueOf (v .kind) (v .bits))) (moved F (frameBase k m) q d) (r .count)
+      (ap (done (Ran k)) (sym (top-frame B before k m q us (r .two) (r .ties) _ _ (putField o O i (valueOf (v .kind) (v .bits))) (moved F (frameBase k m) q d) (r .count)
       (object-set before B o i (valueOf (v .kind) (v .bits)) (l .0) (l .1) (f .1)) (top-kept before k m (r .low) q d))))
 
   pub out-enter : (d : ℕ) (x : Invocation) (D G : List ℕ) → p ≡ Enter d x → D ≡ set C (6 + k) (m + 2)
-      → G ≡ putFrame (moved F b q d) (frameBase k (m + 1)) (entryFrame (x .class) (x .method) (x .object) (rows (operandAt F b) (x .count) (d + 1))) → done (Ran k) (tables (numberedTies N us D) L K E J S O G) ≡ plans
+      → G ≡ putFrame (moved F b q d) (frameBase k (m + 1)) (entryFrame (x .class) (x .method) (x .object) (rows (operandAt F b) (x .count) (d + 1))) → done (Ran k) (tables (set (numberedTies N us D) loadsCell 0) L K E J S O G) ≡ plans
   unfolding planned meaning _>>=_ carried answerOf
   out-enter d x D G e f g =
       let h : (suc m < 32) × (x .count ≤ 4) × (d + x .count < 16) = rw e at (r .fits) in
       let y : m + 2 ≡ suc (suc m) = omega arith in
       let z : m + 1 ≡ suc m = omega arith in
       rw (e, f, g, c, j, r .row, y, z)
-      (ap (done (Ran k)) (sym (same-objects B before k m q us (r .two) (objectsOf B before) _ none (suc (suc m)) O
+      (ap (done (Ran k)) (sym (same-objects B before k m q us (r .two) (r .ties) (objectsOf B before) _ none (suc (suc m)) O
       (putFrame (moved F (frameBase k m) q d) (frameBase k (suc m)) (entryFrame (x .class) (x .method) (x .object) (rows (operandAt F (frameBase k m)) (x .count) (d + 1)))) (objects-fill before B)
       (top-entered before k m (r .low) q d (entryFrame (x .class) (x .method) (x .object) (rows (operandAt F (frameBase k m)) (x .count) (d + 1))) (h .0) (omega arith)
       (omega (arith, filled-length 8 emptyValue (objectValue (x .object) ∷ rows (operandAt F (frameBase k m)) (x .count) (d + 1))))))))
 
   -- the count n of objects rises only if row o is the next
   pub out-make : (d s o n : ℕ) (D G P : List ℕ) → p ≡ Make d s o → n ≡ getD N 5 0 → D ≡ set (set C 5 (rowsWith o n)) (8 + o) (suc k)
-      → G ≡ putOperand b (moved F b q (d + 1)) d (objectValue o) → P ≡ putObject O o (newObject B s) → done (Ran k) (tables (numberedTies N us D) L K E J S P G) ≡ plans
+      → G ≡ putOperand b (moved F b q (d + 1)) d (objectValue o) → P ≡ putObject O o (newObject B s) → done (Ran k) (tables (set (numberedTies N us D) loadsCell 0) L K E J S P G) ≡ plans
   unfolding planned meaning _>>=_ carried answerOf
   out-make d s o n D G P e a f g h =
       let w : (d < 16) × (o ≡ unusedFrom N 0) × (o < 256) × (sizeOf B s ≤ 16) = rw e at (r .fits) in
       rw (e, f, g, h, a, c, j, r .row)
       (ap (done (Ran k)) (sym (
-      progress-writes B before k (leaves B before k m q us (r .two) _ _ none) us (rowsWith o (getD N 5 0)) (suc m) (λ x. set x (8 + o) (suc k)) (putObject O o (newObject B s))
-      (putOperand (frameBase k m) (moved F (frameBase k m) q (d + 1)) d (objectValue o)) (r .two) refl (fills (w .2) (w .1 ∙ unused-is B before))
+      progress-writes B before k (leaves B before k m q us (r .two) (r .ties) _ _ none) us (rowsWith o (getD N 5 0)) (suc m) (λ x. set x (8 + o) (suc k)) (putObject O o (newObject B s))
+      (putOperand (frameBase k m) (moved F (frameBase k m) q (d + 1)) d (objectValue o)) (r .two) (r .ties) refl (fills (w .2) (w .1 ∙ unused-is B before))
       (top-above before k m (r .low) q d (objectValue o) (w .0))
-      ∙ ap (λ z. tables (numberedTies N us (set z (8 + o) (suc k))) L K E (writeRows putTie us (getD N 3 0) I) S (putObject O o (newObject B s)) (putOperand (frameBase k m) (moved F (frameBase k m) q (d + 1)) d (objectValue o)))
+      ∙ ap (λ z. tables (set (numberedTies N us (set z (8 + o) (suc k))) loadsCell 0) L K E (writeRows putTie us (getD N 3 0) I) S (putObject O o (newObject B s)) (putOperand (frameBase k m) (moved F (frameBase k m) q (d + 1)) d (objectValue o)))
       (frames (rowsWith o (getD N 5 0))))))
     where
       fills : o < 256 → o ≡ unused (objectsOf B before)
@@ -186,15 +213,15 @@ module _ (B : Base) (N L K E I S O F : List ℕ) (k m b q : ℕ) (us : List Tie)
           getD-set-other A 5 (6 + k) x 0 (λ e. omega arith) ∙ (getD-set-other N 3 (6 + k) (getD N 3 0 + length us) 0 (λ e. omega arith) ∙ r .count) in
           rw (← z) (set-getD (set A 5 x) (6 + k) 0)
 
-  pub out-finish : (v : ℕ) (D : List ℕ) → p ≡ Finish v → D ≡ set C (6 + k) 0 → done (Finished k v) (tables (numberedTies N us D) L K E J S O F) ≡ plans
+  pub out-finish : (v : ℕ) (D : List ℕ) → p ≡ Finish v → D ≡ set C (6 + k) 0 → done (Finished k v) (tables (set (numberedTies N us D) loadsCell 0) L K E J S O F) ≡ plans
   unfolding planned meaning _>>=_ carried answerOf
   out-finish v D e f =
       rw (e, f, c, j)
-      (ap (done (Finished k v)) (sym (same-objects B before k m q us (r .two) (objectsOf B before) [] (some v) 0 O F (objects-fill before B) (none-left before k))))
+      (ap (done (Finished k v)) (sym (same-objects B before k m q us (r .two) (r .ties) (objectsOf B before) [] (some v) 0 O F (objects-fill before B) (none-left before k))))
 
   -- the frame below is at a, with d operands
   pub out-give : (v : Cell) (a d : ℕ) (D G : List ℕ) → p ≡ Give v → a ≡ frameBase k (m - 1) → d ≡ getD F (a + 3) 0 → D ≡ set C (6 + k) m
-      → G ≡ putOperand a (set F (a + 3) (d + 1)) d (valueOf (v .kind) (v .bits)) → done (Ran k) (tables (numberedTies N us D) L K E J S O G) ≡ plans
+      → G ≡ putOperand a (set F (a + 3) (d + 1)) d (valueOf (v .kind) (v .bits)) → done (Ran k) (tables (set (numberedTies N us D) loadsCell 0) L K E J S O G) ≡ plans
   unfolding planned meaning _>>=_ carried answerOf give
   out-give v a d D G e x y f g =
       let h : (0 < m) × (getD F (frameBase k (m - 1) + 3) 0 < 16) = rw e at (r .fits) in
@@ -202,9 +229,9 @@ module _ (B : Base) (N L K E I S O F : List ℕ) (k m b q : ℕ) (us : List Tie)
       let z : d ≡ getD F (frameBase k (m - 1) + 3) 0 = rw x at y in
       rw (e, f, g, c, j, x, stack-top (frameIn F k) m (h .0))
       (ap (done (Ran k)) (sym (
-      same-objects B before k m q us (r .two) (objectsOf B before) _ none (suc (m - 1)) O (putOperand (frameBase k (m - 1)) (set F (frameBase k (m - 1) + 3) (d + 1)) d (valueOf (v .kind) (v .bits)))
+      same-objects B before k m q us (r .two) (r .ties) (objectsOf B before) _ none (suc (m - 1)) O (putOperand (frameBase k (m - 1)) (set F (frameBase k (m - 1) + 3) (d + 1)) d (valueOf (v .kind) (v .bits)))
       (objects-fill before B) (top-given before k (m - 1) (omega (arith, r .low)) d (valueOf (v .kind) (v .bits)) z (omega (arith, h .1, z)))
-      ∙ ap (λ (n : ℕ). tables (numberedTies N us (set (set N 3 (getD N 3 0 + length us)) (6 + k) n)) L K E (writeRows putTie us (getD N 3 0) I) S O (putOperand (frameBase k (m - 1)) (set F (frameBase k (m - 1) + 3) (d + 1)) d (valueOf (v .kind) (v .bits)))) one)))
+      ∙ ap (λ (n : ℕ). tables (set (numberedTies N us (set (set N 3 (getD N 3 0 + length us)) (6 + k) n)) loadsCell 0) L K E (writeRows putTie us (getD N 3 0) I) S O (putOperand (frameBase k (m - 1)) (set F (frameBase k (m - 1) + 3) (d + 1)) d (valueOf (v .kind) (v .bits)))) one)))
 
 -- A new object's values, by the types of its fields
 
@@ -277,11 +304,11 @@ module _ (N L K E I S O F : List ℕ) (k m b : ℕ) (us : List Tie) (p : Plan) (
 
   -- what is left is what the machine makes of the plan
   pub left-planned : (J : List ℕ) → J ≡ writeRows putTie us (getD N 3 0) I → (q : ℕ) (a : Answer) (D P G : List ℕ) → Left (quickBase C L K E) C O F k m b q p a D P G
-      → done a (tables (numberedTies N us D) L K E J S P G) ≡ planned (quickBase N L K E) (tables N L K E I S O F) k m q us p
+      → done a (tables (closedBy a (numberedTies N us D)) L K E J S P G) ≡ planned (quickBase N L K E) (tables N L K E I S O F) k m q us p
   left-planned J j q a D P G h = go p r h
     where
       go : (p : Plan) → Ready (quickBase N L K E) (tables N L K E I S O F) k m b us p → Left (quickBase C L K E) C O F k m b q p a D P G
-          → done a (tables (numberedTies N us D) L K E J S P G) ≡ planned (quickBase N L K E) (tables N L K E I S O F) k m q us p
+          → done a (tables (closedBy a (numberedTies N us D)) L K E J S P G) ≡ planned (quickBase N L K E) (tables N L K E I S O F) k m q us p
       go (Refuse w) r h = rw (h .0, h .1, h .2, h .3) (out-refuse (quickBase N L K E) N L K E I S O F k m b q us (Refuse w) r C J c j w refl)
       go (Keep d) r h = rw (h .0, h .1, h .2) (out-keep (quickBase N L K E) N L K E I S O F k m b q us (Keep d) r C J c j d G refl (h .3))
       go (Jump d x) r h = rw (h .0, h .1, h .2) (out-jump (quickBase N L K E) N L K E I S O F k m b q us (Jump d x) r C J c j d x G refl (h .3))

@@ -19,10 +19,12 @@ use Rattle.definition.specs.Machine.{intValue, unused, made, newObject, entryFr
 use Rattle.definition.specs.Loading.{started}
 use Rattle.definition.specs.Tables.{Tables, tables, Rows, putObject, sizeOf, putFrame, frameBase, worldOf, objectsOf, viewOver, view, framesIn}
 use Rattle.definition.specs.Broken.{broken}
-use Rattle.definition.specs.Calls.{Given, given, progressed, startRows, done, carried, wrap, callStart, perform}
+use Rattle.definition.specs.Numbers.{loadsCell}
+use Rattle.definition.specs.Calls.{Given, given, closed, progressed, startRows, done, carried, wrap, callStart, perform}
 use Rattle.laws.specs.Arguments.{filled-length}
 use Rattle.layout.specs.OwnedRows.{rowsWith}
 use Rattle.layout.specs.View.{FillsObjects, object-made, quiet-writes, first-entered}
+use Rattle.layout.specs.Unbroken.{unbroken}
 use Rattle.frames.specs.Unused.{unusedFrom, unused-is}
 use Rattle.resolution.specs.Quick.{quickBase, quickOf}
 use Rattle.resolution.specs.Unbroken.{quick-rows}
@@ -35,13 +37,13 @@ use Rattle.execution.specs.Turns.{same-world}
 
 sequence : (k l n m v : ℕ) (r : Rows)
     → startRows k l n m v r
-    ≡ ((need (ltb k 2) (Word 3) >>= λ _. started k l n m v (worldOf r) (r .objects) (framesIn k r)) >>= λ o. given Accepted (progressed k r o))
+    ≡ ((need (ltb k 2) (Word 3) >>= λ _. started k l n m v (worldOf r) (r .objects) (framesIn k r)) >>= λ o. given Accepted (closed (progressed k r o)))
 unfolding startRows
 sequence k l n m v r = go (ltb k 2)
   where
     go : (u : Bool)
-        → _≡_ {A = Result (Given Reply)} (need u (Word 3) >>= λ _. started k l n m v (worldOf r) (r .objects) (framesIn k r) >>= λ o. given Accepted (progressed k r o))
-        ((need u (Word 3) >>= λ _. started k l n m v (worldOf r) (r .objects) (framesIn k r)) >>= λ o. given Accepted (progressed k r o))
+        → _≡_ {A = Result (Given Reply)} (need u (Word 3) >>= λ _. started k l n m v (worldOf r) (r .objects) (framesIn k r) >>= λ o. given Accepted (closed (progressed k r o)))
+        ((need u (Word 3) >>= λ _. started k l n m v (worldOf r) (r .objects) (framesIn k r)) >>= λ o. given Accepted (closed (progressed k r o)))
     go true = unfold need _>>=_ in refl
     go false = unfold need _>>=_ in refl
 
@@ -56,20 +58,20 @@ module _ (N L K E I S O F : List ℕ) (whole : broken (tables N L K E I S O F) �
   abbrev base : Base
   base = quickBase N L K E
 
-  starts : perform (callStart k l n m v) T ≡ carried Denied T (openedAs k (worldIn base T) (objectsOf base T) v r >>= λ o. given Accepted (progressed k (viewOver base T) o))
+  starts : perform (callStart k l n m v) T ≡ carried Denied T (openedAs k (worldIn base T) (objectsOf base T) v r >>= λ o. given Accepted (closed (progressed k (viewOver base T) o)))
   unfolding perform wrap
   starts =
       rw (whole, wrap)
       (ap (carried Denied T)
       (sequence k l n m v (view T)
       ∙ ((λ i. (need (ltb k 2) (Word 3) >>= λ _. started k l n m v (same-world T whole i) (sym (quick-rows T whole) i .objects) (framesIn k (sym (quick-rows T whole) i)))
-      >>= λ o. given Accepted (progressed k (sym (quick-rows T whole) i) o))
-      ∙ ap (λ (x : Result Progress). x >>= λ o. given Accepted (progressed k (viewOver base T) o)) (unfold viewOver in sym (opened .says I S O F v)))))
+      >>= λ o. given Accepted (closed (progressed k (sym (quick-rows T whole) i) o)))
+      ∙ ap (λ (x : Result Progress). x >>= λ o. given Accepted (closed (progressed k (viewOver base T) o))) (unfold viewOver in sym (opened .says I S O F v)))))
 
   pub start-denied : (w : Refusal) → r ≡ Deny w → done (Denied w) T ≡ perform (callStart k l n m v) T
   start-denied w e = sym (starts ∙ (unfold openedAs _>>=_ carried in rw e))
 
-  pub start-first : (c s j o : ℕ) (C P G : List ℕ) → r ≡ First c s j o → C ≡ set (set (set N 5 (rowsWith o (getD N 5 0))) (8 + o) (suc k)) (6 + k) 1
+  pub start-first : (c s j o : ℕ) (C P G : List ℕ) → r ≡ First c s j o → C ≡ set (set (set (set N 5 (rowsWith o (getD N 5 0))) (8 + o) (suc k)) (6 + k) 1) loadsCell 0
       → P ≡ putObject O o (newObject base c) → G ≡ putFrame F (frameBase k 0) (entryFrame s j o (intValue v ∷ []))
       → done Accepted (tables C L K E I S P G) ≡ perform (callStart k l n m v) T
   unfolding openedAs _>>=_ carried
@@ -79,7 +81,7 @@ module _ (N L K E I S O F : List ℕ) (whole : broken (tables N L K E I S O F) �
       let swap : set (set before (8 + o) (suc k)) (6 + k) 1 ≡ set (set before (6 + k) 1) (8 + o) (suc k) = set-comm before (8 + o) (6 + k) (suc k) 1 (λ q. omega (arith, f .0)) in
       sym (starts ∙ (rw (e, x, y, z, swap) (ap (done Accepted) (
       quiet-writes base T k (record { world = worldIn base T; objects = _; frames = _; result = none }) (rowsWith o (getD N 5 0)) 1 (λ d. set d (8 + o) (suc k))
-      (putObject O o (newObject base c)) (putFrame F (frameBase k 0) (entryFrame s j o (intValue v ∷ []))) (f .0) refl
+      (putObject O o (newObject base c)) (putFrame F (frameBase k 0) (entryFrame s j o (intValue v ∷ []))) (f .0) (unbroken T whole .counts .ties) refl
       (fills (f .2) (f .1 ∙ unused-is base T)) (first-entered T k (entryFrame s j o (intValue v ∷ [])) (omega arith) (omega (arith, filled-length 8 emptyValue (objectValue o ∷ intValue v ∷ []))))))))
     where
       fills : o < 256 → o ≡ unused (objectsOf base T)

@@ -28,7 +28,7 @@ use Rattle.instructions.specs.declared.Plan.{Plan}
 use Rattle.tasks.specs.Turns.{turnOf}
 use Rattle.posting.specs.declared.Posting.{Posting}
 use Rattle.posting.specs.Postings.{toPost}
-use Rattle.execution.specs.Carried.{planned, Left, left-planned}
+use Rattle.execution.specs.Carried.{closedBy, planned, Left, left-planned}
 use Rattle.execution.specs.Steps.{Chosen}
 
 -- task k's step, with m frames below its top frame, where B gives the classes
@@ -117,11 +117,11 @@ module _ (N L K E I S O F : List ℕ) (whole : broken (tables N L K E I S O F) �
       one zero e = absurd (e refl)
       one (suc n) e = omega arith
 
-  -- ties posted, which gives the counts C and the ties J, then the plan carried out, and then the ties numbered
+  -- ties posted, which gives the counts C and the ties J, then the plan carried out, then the ties numbered, and then the loads closed
   pub turn-carried : n ≢ 0 → (b q : ℕ) (x : Posting) (p : Plan) → Chosen N L K E I S O F k (n - 1) b x p q
       → (C J : List ℕ) → C ≡ set N 3 (getD N 3 0 + length (toPost x)) → J ≡ writeRows putTie (toPost x) (getD N 3 0) I
       → (a : Answer) (D P G : List ℕ) → Left (quickBase C L K E) C O F k (n - 1) b q p a D P G → (u v : ℕ) → u ≡ getD N 3 0 → v ≡ getD N 4 0
-      → (M : List ℕ) → M ≡ writeRows (putNumber tieNumbersCell) (numbersFrom (u + v) (length (toPost x))) u D → done a (tables M L K E J S P G) ≡ stepTables T
+      → (M : List ℕ) → M ≡ closedBy a (writeRows (putNumber tieNumbersCell) (numbersFrom (u + v) (length (toPost x))) u D) → done a (tables M L K E J S P G) ≡ stepTables T
   turn-carried e b q x p h C J c j a D P G l u v y z M w =
       rw (w, y, z) (left-planned N L K E I S O F k (n - 1) b (toPost x) p (h .ready) C c J j q a D P G l)
       ∙ (planned-taken T k (n - 1) b q x p h ∙ (rw turns (sym (step-taken T whole (n - 1) (rw turns at (turn-count e))))))
@@ -130,7 +130,7 @@ module _ (N L K E I S O F : List ℕ) (whole : broken (tables N L K E I S O F) �
   pub top-carried : n ≢ 0 → (h i : ℕ) → h ≡ k → i ≡ n - 1 → (b q : ℕ) (x : Posting) (p : Plan) → Chosen N L K E I S O F h i b x p q
       → (C J : List ℕ) → C ≡ set N 3 (getD N 3 0 + length (toPost x)) → J ≡ writeRows putTie (toPost x) (getD N 3 0) I
       → (a : Answer) (D P G : List ℕ) → Left (quickBase C L K E) C O F h i b q p a D P G → (u v : ℕ) → u ≡ getD N 3 0 → v ≡ getD N 4 0
-      → (M : List ℕ) → M ≡ writeRows (putNumber tieNumbersCell) (numbersFrom (u + v) (length (toPost x))) u D → done a (tables M L K E J S P G) ≡ stepTables T
+      → (M : List ℕ) → M ≡ closedBy a (writeRows (putNumber tieNumbersCell) (numbersFrom (u + v) (length (toPost x))) u D) → done a (tables M L K E J S P G) ≡ stepTables T
   top-carried e h i y z b q x p g C J c j a D P G l u v f r M w = turn-carried e b q x p (rw (y, z) at g) C J c j a D P G (rw (y, z) at l) u v f r M w
 
 pub step-broken : (t : Tables) → broken t ≡ true → done (Refused (Word 1)) t ≡ stepTables t

@@ -4,6 +4,7 @@ use crate::carrying::write_new;
 use definition::Refusal;
 use definition::Reply;
 use definition::numbers::KIND_INT;
+use definition::numbers::LOADS_CELL;
 use definition::numbers::WORD_BROKEN;
 use frames::Cell;
 use frames::Entry;
@@ -12,7 +13,7 @@ ghost use mathlib.Core.Path.{_≡_};
 ghost use mathlib.Core.List.{[], _∷_};
 ghost use Prim.Native.Nat.{suc, _+_, _<_, _≤_};
 ghost use lib.ListN.{getD, set};
-ghost use Rattle.definition.specs.Numbers.{objectLimit, fieldLimit, countObjects, countFrames, ownersCell};
+ghost use Rattle.definition.specs.Numbers.{objectLimit, fieldLimit, countObjects, countFrames, ownersCell, loadsCell};
 ghost use Rattle.definition.specs.Machine.{intValue, newObject, entryFrame};
 ghost use Rattle.definition.specs.Tables.{tables, sizeOf, putObject, putFrame, frameBase};
 ghost use Rattle.definition.specs.Calls.{done, callStart, perform};
@@ -52,7 +53,7 @@ fn decide_start(
     opening::decide(counts, classes, kept, cache, task, loader, name, method)
 }
 
-// A task begun: a new object of class c with the number o, and a first frame in method j of class s with that object and an int.
+// A task begun, which closes the loads before it: a new object of class c with the number o, and a first frame in method j of class s with that object and an int.
 fn begin(
     counts: &mut [u16],
     classes: &[u16],
@@ -68,7 +69,7 @@ fn begin(
     value: u32,
 )
     requires { ⌜ (o < objectLimit) × (sizeOf (quickBase (now counts) (now classes) (now kept) (now cache)) c ≤ fieldLimit) ⌝ }
-    ensures counted { λ _. ⌜ now (counts .exit) ≡ set (set (set (now (counts .entry)) countObjects (rowsWith o (getD (now (counts .entry)) countObjects 0))) (ownersCell + o) (suc task)) (countFrames + task) 1 ⌝ }
+    ensures counted { λ _. ⌜ now (counts .exit) ≡ set (set (set (set (now (counts .entry)) countObjects (rowsWith o (getD (now (counts .entry)) countObjects 0))) (ownersCell + o) (suc task)) (countFrames + task) 1) loadsCell 0 ⌝ }
     ensures made { λ _. ⌜ now (objects .exit) ≡ putObject (now (objects .entry)) o (newObject (quickBase (now (counts .entry)) (now (classes .entry)) (now (kept .entry)) (now (cache .entry))) c) ⌝ }
     ensures entered { λ _. ⌜ now (frames .exit) ≡ putFrame (now (frames .entry)) (frameBase task 0) (entryFrame s j o (intValue value ∷ [])) ⌝ }
 {
@@ -91,6 +92,7 @@ fn begin(
     );
     take_row(counts, o, task);
     tasks::write_frame_count(counts, task, 1);
+    cells::put16(counts, LOADS_CELL, 0);
 }
 
 // Makes a new object of the cached class and a first frame in the method selected for that name, int and int, with that object and int.

@@ -7,6 +7,7 @@ use crate::deciding::choose;
 use crate::deciding::top_frame;
 use definition::Answer;
 use definition::Refusal;
+use definition::numbers::LOADS_CELL;
 use definition::numbers::WORD_BROKEN;
 ghost use mathlib.Core.Path.{_≡_};
 ghost use mathlib.Core.Bool.{false};
@@ -14,7 +15,30 @@ ghost use Rattle.definition.specs.Tables.{tables};
 ghost use Rattle.definition.specs.Broken.{broken};
 ghost use Rattle.definition.specs.Calls.{done, stepTables};
 ghost use Rattle.tasks.specs.Turns.{turnOf};
+ghost use Rattle.execution.specs.Carried.{closedBy, wentOn};
 ghost use Rattle.execution.specs.Decisions.{RoomFor};
+
+// The step ran or finished.
+fn went_on(a: Answer) -> bool
+    ensures { λ r. ⌜ r ≡ wentOn a ⌝ }
+{
+    match a {
+        Answer::Idle => false,
+        Answer::Ran(_) => true,
+        Answer::Finished(_, _) => true,
+        Answer::Refused(_) => false,
+    }
+}
+
+// A step that ran or finished closes the loads before it.
+fn close(counts: &mut [u16], answer: Answer)
+    ensures { λ _. ⌜ now (counts .exit) ≡ closedBy answer (now (counts .entry)) ⌝ }
+{
+    if !went_on(answer) {
+        return;
+    }
+    cells::put16(counts, LOADS_CELL, 0);
+}
 
 // A step of a store that is not broken: decided on shared tables, then ties are posted and the plan carried out.
 pub(crate) fn step_unbroken(
@@ -64,6 +88,7 @@ pub(crate) fn step_unbroken(
         plan,
     );
     number_ties(counts, before, posting);
+    close(counts, answer);
     answer
 }
 

@@ -1,15 +1,15 @@
 -- Word 1, 'broken', of the first document: the tests that speak of files or objects, and what stands on them.
 use mathlib.Core.Bool.{Bool, true, false, not}
 use mathlib.Core.List.{List, [], _∷_}
-use Prim.Native.Nat.{ℕ}
-use lib.ListN.{length}
+use Prim.Native.Nat.{ℕ, _+_}
+use lib.ListN.{length, getD}
 use lib.Dec.{leb, ltb}
-use Rattle.definition.specs.Numbers.{loaderLimit, fieldLimit, operandLimit}
+use Rattle.definition.specs.Numbers.{loaderLimit, fieldLimit, operandLimit, classLimit, keptLimit, cacheLimit, tieLimit, subtypeLimit, objectLimit, frameLimit, countClasses, countKept, countCache, countTies, countSubtypes, countObjects, countFrames}
 use Rattle.definition.specs.Lists.{every, all, allFrom, isSome}
 use Rattle.definition.specs.Classes.{Base, superOf}
 use Rattle.definition.specs.Machine.{Value, emptyValue, intValue, nullValue, objectValue, unlistedValue, Object, Frame}
 use Rattle.definition.specs.Tables.{ClassRow, sizeOf}
-use Rattle.definition.specs.Broken.{within, isObject, entryFits, tieFits, subtypeFits}
+use Rattle.definition.specs.Broken.{isObject, entryFits, tieFits, subtypeFits}
 use Rattle.first.specs.Machine.{firstExisting}
 use Rattle.first.specs.Tables.{FirstTables, firstShaped, firstFileAt, firstBaseOf, FirstRows, firstView}
 
@@ -54,8 +54,21 @@ firstSound r = every
     ∷ all (firstFrameFits (length (r .classes)) (r .objects)) (r .report)
     ∷ [])
 
+-- each of the eight counts within its limit
+unfoldable pub firstWithin : List ℕ → Bool
+firstWithin c = every
+    (leb (getD c countClasses 0) classLimit
+    ∷ leb (getD c countKept 0) keptLimit
+    ∷ leb (getD c countCache 0) cacheLimit
+    ∷ leb (getD c countTies 0) tieLimit
+    ∷ leb (getD c countSubtypes 0) subtypeLimit
+    ∷ leb (getD c countObjects 0) objectLimit
+    ∷ leb (getD c countFrames 0) frameLimit
+    ∷ leb (getD c (countFrames + 1) 0) frameLimit
+    ∷ [])
+
 unfoldable pub firstWhole : FirstTables → Bool
-firstWhole t = every (firstShaped t ∷ within (t .counts) ∷ firstSound (firstView t) ∷ [])
+firstWhole t = every (firstShaped t ∷ firstWithin (t .counts) ∷ firstSound (firstView t) ∷ [])
 
 unfoldable pub firstBroken : FirstTables → Bool
 firstBroken t = not (firstWhole t)

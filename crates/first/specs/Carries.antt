@@ -3,32 +3,33 @@
 use mathlib.Core.Path.{_≡_, refl, sym, ap, _∙_, subst}
 use mathlib.Core.Bool.{Bool, true, false, not}
 use mathlib.Core.List.{List, [], _∷_, _++_}
-use Prim.Native.Nat.{ℕ, zero, suc, _+_, _<_, _≤_}
+use Prim.Native.Nat.{ℕ, zero, suc, _+_, _*_, _<_, _≤_}
 use native.Mathlib.Omega.{arith}
 use lib.ListN.{length, getD, replicate, length-replicate, getD-replicate, length-append, List·getD-append}
 use lib.Seq.{getD-append-add}
 use lib.Dec.{eqb, leb}
 use borrow.Author.Tests.{eqb-true, eqb-false, eq-eqb, ne-eqb, leb-true, le-leb, not-false}
-use Rattle.definition.specs.Numbers.{taskLimit, classLimit, keptLimit, cacheLimit, tieLimit, subtypeLimit, objectLimit, frameLimit, countClasses, countKept, countCache, countTies, countSubtypes, countObjects, countFrames, ownersCell, tieNumbersCell, subtypeNumbersCell, countsLength, classesLength, keptLength, cacheLength, tiesLength, subtypesLength, objectsLength, framesLength, shareLimit}
+use Rattle.definition.specs.Numbers.{taskLimit, classLimit, keptLimit, cacheLimit, tieLimit, subtypeLimit, objectLimit, frameLimit, countClasses, countKept, countCache, countTies, countSubtypes, countObjects, countFrames, ownersCell, tieNumbersCell, subtypeNumbersCell, loadsCell, traceLimit, levelCells, countsLength, classesLength, keptLength, cacheLength, tiesLength, subtypesLength, objectsLength, framesLength, shareLimit}
 use Rattle.definition.specs.Lists.{every, any, rows, stack}
 use Rattle.definition.specs.Machine.{madeBy}
 use Rattle.definition.specs.Classes.{Base}
 use Rattle.definition.specs.Tables.{Tables, tables, rowNumbers, numberAt, numbersOf, shaped, baseOf, classRowAt, entryAt, tieAt, subtypeAt, objectAt, ownedBy, ownerAt, objectRowAt, frameIn, classRowsOf, keptOf, cacheOf, viewBase, objectsOf, framesOf, viewOver, view}
-use Rattle.definition.specs.Broken.{within, inTurn, numbered, whole, broken}
+use Rattle.definition.specs.Broken.{within, inTurn, numbered, traceFits, whole, broken}
 use Rattle.definition.specs.Calls.{numbersFrom}
 use Rattle.layout.specs.Places.{rows-length, rows-getD, rows-cong}
 use Rattle.layout.specs.InTurn.{more-ties, more-subtypes}
 use Rattle.layout.specs.Tests.{every-true}
-use Rattle.layout.specs.Unbroken.{broken-false}
+use Rattle.layout.specs.Unbroken.{unbroken, broken-false}
+use Rattle.layout.specs.Traced.{trace-fits}
 use Rattle.first.specs.Tables.{FirstTables, firstCountsLength, firstShaped, FirstRows, firstRowsOf, firstObjectsOf, firstViewOver, firstViewBase, firstView}
-use Rattle.first.specs.Broken.{firstSound, firstWhole, firstBroken}
+use Rattle.first.specs.Broken.{firstSound, firstWithin, firstWhole, firstBroken}
 use Rattle.first.specs.SameObjects.{SameObjects, noObjects, sameObject}
 use Rattle.first.specs.SameBases.{laterRow, Early, early, same-classes, fits-early}
 use Rattle.first.specs.SameRows.{SameRows, EarlyRows, BesideFits, same-sound}
 
 -- how many cells stand behind the eight counts
 abbrev pub besideLength : ℕ
-besideLength = objectLimit + (tieLimit + subtypeLimit)
+besideLength = objectLimit + (tieLimit + (subtypeLimit + (1 + traceLimit * levelCells)))
 
 -- an owner cell that says a task, whichever
 abbrev pub IsOwner : ℕ → Type 0
@@ -55,9 +56,13 @@ pub record Carries (u : FirstTables) (t : Tables) : Type 0 where
   pub fronts : Fronts u t
   pub unbroken : firstBroken u ≡ false → broken t ≡ false
 
--- ties numbered first, n of them, then subtype constraints
+-- no load that can be taken back
+abbrev pub noTrace : List ℕ
+noTrace = replicate (1 + traceLimit * levelCells) 0
+
+-- ties numbered first, n of them, then subtype constraints; and no trace
 abbrev pub tiesFirst : ℕ → List ℕ
-tiesFirst n = numbersFrom 0 tieLimit ++ numbersFrom n subtypeLimit
+tiesFirst n = numbersFrom 0 tieLimit ++ (numbersFrom n subtypeLimit ++ noTrace)
 
 -- every tables of the first document are carried by those in which task k owns every row, the quote, with ties numbered first
 abbrev pub carriedBy : ℕ → FirstTables → Tables
@@ -76,7 +81,7 @@ module _ (c ow : List ℕ) (n m : ℕ) (eight : length c ≡ ownersCell) (all : 
   unfolding numberAt
   tie-numbers = rows-cong (numberAt tieNumbersCell cells) (λ i. i) n 0 (λ i _ l.
       let z : 0 + i ≡ i = omega arith in
-      cell-behind i ∙ (List·getD-append (numbersFrom 0 tieLimit) (numbersFrom n subtypeLimit) 0 i (omega (arith, rows-length (λ i. i) tieLimit 0))
+      cell-behind i ∙ (List·getD-append (numbersFrom 0 tieLimit) (numbersFrom n subtypeLimit ++ noTrace) 0 i (omega (arith, rows-length (λ i. i) tieLimit 0))
       ∙ (rw z at (rows-getD (λ i. i) tieLimit 0 i 0 (omega arith)))))
 
   subtype-numbers : rows (numberAt subtypeNumbersCell cells) m 0 ≡ numbersFrom n m
@@ -84,13 +89,21 @@ module _ (c ow : List ℕ) (n m : ℕ) (eight : length c ≡ ownersCell) (all : 
   subtype-numbers =
       rows-cong (numberAt subtypeNumbersCell cells) (λ i. n + i) m 0 (λ i _ l.
       let a : subtypeNumbersCell + i ≡ tieNumbersCell + (length (numbersFrom 0 tieLimit) + i) = omega (arith, rows-length (λ i. i) tieLimit 0) in
-      rw a (cell-behind (length (numbersFrom 0 tieLimit) + i) ∙ (getD-append-add (numbersFrom 0 tieLimit) (numbersFrom n subtypeLimit) i 0
-      ∙ rows-getD (λ i. i) subtypeLimit n i 0 (omega arith))))
+      rw a (cell-behind (length (numbersFrom 0 tieLimit) + i) ∙ (getD-append-add (numbersFrom 0 tieLimit) (numbersFrom n subtypeLimit ++ noTrace) i 0
+      ∙ (List·getD-append (numbersFrom n subtypeLimit) noTrace 0 i (omega (arith, rows-length (λ i. i) subtypeLimit n))
+      ∙ rows-getD (λ i. i) subtypeLimit n i 0 (omega arith)))))
       ∙ shifted m 0 n (omega arith)
     where
       shifted : (m i j : ℕ) → j ≡ n + i → rows (λ i. n + i) m i ≡ numbersFrom j m
       shifted zero i j e = refl
       shifted (suc m) i j e = λ k. sym e k ∷ shifted m (suc i) (suc j) (omega arith) k
+
+  no-loads : getD cells loadsCell 0 ≡ 0
+  no-loads =
+      let a : loadsCell ≡ tieNumbersCell + (length (numbersFrom 0 tieLimit) + (length (numbersFrom n subtypeLimit) + 0)) = omega (arith, rows-length (λ i. i) tieLimit 0, rows-length (λ i. i) subtypeLimit n) in
+      rw a (cell-behind (length (numbersFrom 0 tieLimit) + (length (numbersFrom n subtypeLimit) + 0))
+      ∙ (getD-append-add (numbersFrom 0 tieLimit) (numbersFrom n subtypeLimit ++ noTrace) (length (numbersFrom n subtypeLimit) + 0) 0
+      ∙ getD-append-add (numbersFrom n subtypeLimit) noTrace 0 0))
 
 -- ties numbered first are in turn
 first-in-turn : (n m : ℕ) → numbered (rowNumbers (numbersFrom 0 n) (numbersFrom n m)) ≡ true
@@ -108,7 +121,7 @@ fronting k two u =
     record {
       behind = ow ++ tiesFirst n;
       counts = refl;
-      all = omega (arith, length-append ow (tiesFirst n), long, length-append (numbersFrom 0 tieLimit) (numbersFrom n subtypeLimit), rows-length (λ i. i) tieLimit 0, rows-length (λ i. i) subtypeLimit n);
+      all = omega (arith, length-append ow (tiesFirst n), long, length-append (numbersFrom 0 tieLimit) (numbersFrom n subtypeLimit ++ noTrace), length-append (numbersFrom n subtypeLimit) noTrace, length-replicate {A = ℕ} (1 + traceLimit * levelCells) 0, rows-length (λ i. i) tieLimit 0, rows-length (λ i. i) subtypeLimit n);
       tasks = λ o _ l. (k, two, List·getD-append ow (tiesFirst n) 0 o (omega (arith, long)) ∙ getD-replicate objectLimit o (suc k) 0 l);
       rest = refl;
     }
@@ -147,17 +160,17 @@ unbroken-keeps-none u h = fits-early (firstViewBase u) (keptOf u) (classRowsOf u
 
 -- The published lengths
 
-same-length : (n : ℕ) → eqb n firstCountsLength ≡ eqb (n + (objectLimit + (tieLimit + subtypeLimit))) countsLength
+same-length : (n : ℕ) → eqb n firstCountsLength ≡ eqb (n + besideLength) countsLength
 same-length n = go (eqb n firstCountsLength) refl
   where
-    go : (b : Bool) → eqb n firstCountsLength ≡ b → b ≡ eqb (n + (objectLimit + (tieLimit + subtypeLimit))) countsLength
-    go true e = sym (eq-eqb (n + (objectLimit + (tieLimit + subtypeLimit))) countsLength (ap (λ (z : ℕ). z + (objectLimit + (tieLimit + subtypeLimit))) (eqb-true n firstCountsLength e)))
-    go false e = sym (ne-eqb (n + (objectLimit + (tieLimit + subtypeLimit))) countsLength (λ q. eqb-false n firstCountsLength e (omega arith)))
+    go : (b : Bool) → eqb n firstCountsLength ≡ b → b ≡ eqb (n + besideLength) countsLength
+    go true e = sym (eq-eqb (n + besideLength) countsLength (ap (λ (z : ℕ). z + besideLength) (eqb-true n firstCountsLength e)))
+    go false e = sym (ne-eqb (n + besideLength) countsLength (λ q. eqb-false n firstCountsLength e (omega arith)))
 
 pub same-shaped : (u : FirstTables) (t : Tables) → Fronts u t → firstShaped u ≡ shaped t
 unfolding firstShaped shaped
 same-shaped u t h =
-    let n : length (t .counts) ≡ length (u .counts) + (objectLimit + (tieLimit + subtypeLimit)) = ap length (h .counts) ∙ (length-append (u .counts) (h .behind) ∙ ap (λ (z : ℕ). length (u .counts) + z) (h .all)) in
+    let n : length (t .counts) ≡ length (u .counts) + besideLength = ap length (h .counts) ∙ (length-append (u .counts) (h .behind) ∙ ap (λ (z : ℕ). length (u .counts) + z) (h .all)) in
     let e : eqb (length (u .counts)) firstCountsLength ≡ eqb (length (t .counts)) countsLength = same-length (length (u .counts)) ∙ ap (λ (z : ℕ). eqb z countsLength) (sym n) in
     λ i. every
     (e i
@@ -180,6 +193,13 @@ same-read b n t (suc k) i h =
     let w = h i (omega arith) (omega arith) in
     rw (w .2) (sameObject (w .1) (same-read b n t k (suc i) (λ m a l. h m (omega arith) (omega arith))))
 
+-- one more test that passes where the others do
+every-more : (xs : List Bool) (b : Bool) → (every xs ≡ true → b ≡ true) → every xs ≡ every (xs ++ (b ∷ []))
+unfolding every
+every-more [] b h = sym (rw (h refl) refl)
+every-more (true ∷ xs) b h = every-more xs b h
+every-more (false ∷ xs) b h = refl
+
 module _ (u : FirstTables) (t : Tables) (h : Fronts u t) (early-u : EarlyTables u) (eight : length (u .counts) ≡ firstCountsLength) where
   same-cell : (j : ℕ) → j < firstCountsLength → getD (u .counts) j 0 ≡ getD (t .counts) j 0
   same-cell j l = sym (ap (λ (z : List ℕ). getD z j 0) (h .counts) ∙ List·getD-append (u .counts) (h .behind) 0 j (omega arith))
@@ -188,9 +208,9 @@ module _ (u : FirstTables) (t : Tables) (h : Fronts u t) (early-u : EarlyTables 
   unfolding ownerAt
   same-owner o = ap (λ (z : List ℕ). getD z (ownersCell + o) 0) (h .counts) ∙ (rw eight at (getD-append-add (u .counts) (h .behind) o 0))
 
-  same-within : within (u .counts) ≡ within (t .counts)
-  unfolding within
-  same-within = λ i. every
+  same-within : (firstWithin (u .counts) ≡ true → leb (getD (t .counts) loadsCell 0) traceLimit ≡ true) → firstWithin (u .counts) ≡ within (t .counts)
+  unfolding firstWithin within
+  same-within few = every-more _ (leb (getD (t .counts) loadsCell 0) traceLimit) few ∙ λ i. every
       (leb (same-cell countClasses (omega arith) i) classLimit
       ∷ leb (same-cell countKept (omega arith) i) keptLimit
       ∷ leb (same-cell countCache (omega arith) i) cacheLimit
@@ -199,6 +219,7 @@ module _ (u : FirstTables) (t : Tables) (h : Fronts u t) (early-u : EarlyTables 
       ∷ leb (same-cell countObjects (omega arith) i) objectLimit
       ∷ leb (same-cell countFrames (omega arith) i) frameLimit
       ∷ leb (same-cell (countFrames + 1) (omega arith) i) frameLimit
+      ∷ leb (getD (t .counts) loadsCell 0) traceLimit
       ∷ [])
 
   read-base : firstViewBase u ≡ viewBase u
@@ -248,23 +269,28 @@ pub early-rows : (u : FirstTables) (t : Tables) → EarlyTables u → SameRows (
 unfolding firstView firstViewOver
 early-rows u t e r = subst (λ (z : FirstRows). Early (z .kept) (z .classes)) (r .rest) e
 
+-- the trace passes: at most 32 loads, and each turn leaves sound rows
+abbrev pub TraceBeside : Tables → Type 0
+TraceBeside t = (leb (getD (t .counts) loadsCell 0) traceLimit ≡ true) × (traceFits (view t .trace) (view t) ≡ true)
+
 module _ (u : FirstTables) (t : Tables) (h : Fronts u t) where
   pub eight-counts : firstShaped u ≡ true → length (u .counts) ≡ firstCountsLength
   unfolding firstShaped
   eight-counts s = eqb-true _ _ (every-true _ s .0)
 
   -- of the first document's lengths, and counts within the limits: both hold the same rows
-  same-rows : EarlyTables u → firstShaped u ≡ true → within (u .counts) ≡ true → SameRows (firstView u) (view t)
-  unfolding within
+  same-rows : EarlyTables u → firstShaped u ≡ true → firstWithin (u .counts) ≡ true → SameRows (firstView u) (view t)
+  unfolding firstWithin
   same-rows e s w = same-view u t h e (eight-counts s) (leb-true _ _ (every-true _ w .1 .1 .1 .1 .1 .0))
 
   -- where what stands beside the rows passes, if the first document's tests do, both are broken or neither is
-  alike-broken : EarlyTables u → (firstShaped u ≡ true → within (u .counts) ≡ true → BesideFits (view t)) → firstBroken u ≡ broken t
+  alike-broken : EarlyTables u → (firstShaped u ≡ true → firstWithin (u .counts) ≡ true → BesideFits (view t) × TraceBeside t) → firstBroken u ≡ broken t
   unfolding firstBroken broken firstWhole whole
   alike-broken e turn = ap not
-      (in-turn _ _ _ _ (same-shaped u t h) (λ s. in-turn _ _ _ _ (same-within u t h e (eight-counts s)) (λ w.
+      (in-turn _ _ _ _ (same-shaped u t h) (λ s. in-turn _ _ _ _ (same-within u t h e (eight-counts s) (λ w. turn s w .1 .0)) (λ w.
       let r = same-rows e s w in
-      ap (λ (z : Bool). every (z ∷ [])) (ap firstSound (r .rest) ∙ same-sound (firstView u .objects) (view t) (r .objects) (turn s w) (early-rows u t e r)))))
+      every-more _ (traceFits (view t .trace) (view t)) (λ _. turn s w .1 .1)
+      ∙ ap (λ (z : Bool). every (z ∷ traceFits (view t .trace) (view t) ∷ [])) (ap firstSound (r .rest) ∙ same-sound (firstView u .objects) (view t) (r .objects) (turn s w .0) (early-rows u t e r)))))
 
   -- a store that isn't broken
   pub record SameStore : Type 0 where
@@ -276,8 +302,11 @@ module _ (u : FirstTables) (t : Tables) (h : Fronts u t) where
   same-store x e = let p = every-true _ (not-false _ e) in record { eight = eight-counts (p .0); rows = same-rows x (p .0) (p .1 .0) }
 
 -- what today's machine doesn't call broken passes
-beside-unbroken : (t : Tables) → broken t ≡ false → BesideFits (view t)
-beside-unbroken t b = let w = broken-false t b .1 in (w .numbers .turn, le-leb (madeBy 1 (view t .objects)) shareLimit (w .share))
+beside-unbroken : (t : Tables) → broken t ≡ false → BesideFits (view t) × TraceBeside t
+beside-unbroken t b =
+    let x = broken-false t b in
+    let w = x .1 in
+    ((w .numbers .turn, le-leb (madeBy 1 (view t .objects)) shareLimit (w .share)), (le-leb _ traceLimit (unbroken t b .counts .trace), trace-fits (view t .trace) (view t) (x .2)))
 
 pub same-broken : (u : FirstTables) (t : Tables) → Carries u t → EarlyTables u → firstBroken u ≡ broken t
 same-broken u t h e = go (firstBroken u) refl (broken t) refl
@@ -295,13 +324,13 @@ none-made b n t (suc k) i h = rw (h i (omega arith) (omega arith)) (none-made b 
 
 -- every tables of the first document are carried: the quote owns every object
 pub carrying : (u : FirstTables) → Carries u (carriedBy 0 u)
-unfolding within view viewOver objectsOf fronting
+unfolding firstWithin view viewOver objectsOf fronting traceFits stack
 carrying u = record { fronts = f; unbroken = λ e. sym (alike-broken u (carriedBy 0 u) f (unbroken-keeps-none u e) (beside (unbroken-keeps-none u e))) ∙ e }
   where
     f : Fronts u (carriedBy 0 u)
     f = fronting 0 (omega arith) u
 
-    beside : EarlyTables u → firstShaped u ≡ true → within (u .counts) ≡ true → BesideFits (view (carriedBy 0 u))
+    beside : EarlyTables u → firstShaped u ≡ true → firstWithin (u .counts) ≡ true → BesideFits (view (carriedBy 0 u)) × TraceBeside (carriedBy 0 u)
     beside x s w =
         let p = every-true _ w in
         let eight = eight-counts u (carriedBy 0 u) f s in
@@ -312,4 +341,7 @@ carrying u = record { fronts = f; unbroken = λ e. sym (alike-broken u (carriedB
         let none = none-made (viewBase (carriedBy 0 u)) (carriedBy 0 u .counts) (u .objects) (getD (carriedBy 0 u .counts) countObjects 0) 0
         (λ m _ l. same-owner u (carriedBy 0 u) f x eight m
         ∙ (List·getD-append ow (tiesFirst (getD (u .counts) countTies 0)) 0 m (omega (arith, long)) ∙ getD-replicate objectLimit m 1 0 (omega arith))) in
-        (carried-turn 0 u eight (leb-true _ _ (p .1 .1 .1 .0)) (leb-true _ _ (p .1 .1 .1 .1 .0)), rw none refl)
+        let ties = leb-true _ _ (p .1 .1 .1 .0) in
+        let subtypes = leb-true _ _ (p .1 .1 .1 .1 .0) in
+        let loads = no-loads (u .counts) ow (getD (u .counts) countTies 0) (getD (u .counts) countSubtypes 0) eight long ties subtypes in
+        ((carried-turn 0 u eight ties subtypes, rw none refl), (rw loads refl, rw loads refl))

@@ -25,9 +25,8 @@ use Rattle.layout.specs.Rows.{rows-back, cell-rows}
 use Rattle.layout.specs.Fills.{classes-fill, kept-fill}
 use Rattle.layout.specs.ReadBack.{Lengths, shaped-true}
 use Rattle.layout.specs.Unbroken.{broken-false}
-use Rattle.layout.specs.Whole.{Whole}
-use Rattle.unbroken.specs.Calls.{boot-whole, rows-whole, step-whole}
-use Rattle.unbroken.specs.Unbroken.{Keeps}
+use Rattle.unbroken.specs.Calls.{boot-whole, boot-traced, rows-whole, step-whole}
+use Rattle.unbroken.specs.Unbroken.{Unhurt, Keeps}
 use Rattle.definition.specs.Calls.{Given, bootRows, Done, done, carried, wrap, boot, stepRows, stepTables, goOn, runFrom, run, onRowCall}
 use Rattle.first.specs.Tables.{FirstTables, firstCountsLength, FirstRows, firstWorldOf, firstViewOver, firstView, firstCountsOf, firstPut}
 use Rattle.first.specs.Broken.{firstBroken}
@@ -56,7 +55,7 @@ same-left a u t h = record { answer = refl; tables = h }
 pub same-boot : (u : FirstTables) (t : Tables) → Carries u t → SameDone (firstBoot u) (boot t)
 unfolding firstBoot boot
 same-boot u t h = either SameDone _ _ _ _ _ _ (same-shaped u t (h .fronts))
-    (λ s. record { answer = refl; tables = same-rows-put u t (h .fronts) (eight-counts u t (h .fronts) s) firstBootRows bootRows (record { rest = refl; objects = noObjects }) (shaped-true t (sym (same-shaped u t (h .fronts)) ∙ s)) boot-whole })
+    (λ s. record { answer = refl; tables = same-rows-put u t (h .fronts) (eight-counts u t (h .fronts) s) firstBootRows bootRows (record { rest = refl; objects = noObjects }) (shaped-true t (sym (same-shaped u t (h .fronts)) ∙ s)) boot-whole boot-traced })
     (λ _. same-left _ u t h)
 
 -- alike, or today's answer tells of the report's share
@@ -67,13 +66,13 @@ Unless told d e = SameDone d e ⊎ told (e .answer)
 module _ {A : Type 0} (deny : Refusal → A) (told : A → Type 0) (tells : told (deny (Word wordShare))) (f : FirstRows → Result (FirstGiven A)) (g : Rows → Result (Given A)) (On : FirstRows → Type 0)
     (alike : (r : FirstRows) (q : Rows) → SameRows r q → EarlyRows q → On r → Likewise SameGiven (f r) (g q)) (keeps : Keeps g) where
   same-carried : (u : FirstTables) (t : Tables) → Carries u t → Lengths t → length (u .counts) ≡ firstCountsLength → (o : Result (FirstGiven A)) (p : Result (Given A))
-      → Likewise SameGiven o p → Ok p (λ g. Whole (g .rows)) → Unless told (firstCarried deny u o) (carried deny t p)
+      → Likewise SameGiven o p → Ok p Unhurt → Unless told (firstCarried deny u o) (carried deny t p)
   unfolding firstCarried carried
   same-carried u t h n e (refused v) (refused w) (inl l) k = inl (record { answer = ap deny l; tables = h })
   same-carried u t h n e (refused v) (refused w) (inr l) k = inr (rw l tells)
   same-carried u t h n e (refused v) (ok b) l k = absurd l
   same-carried u t h n e (ok a) (refused w) l k = inr (rw l tells)
-  same-carried u t h n e (ok a) (ok b) l k = inl (record { answer = l .answer; tables = same-rows-put u t (h .fronts) e (a .rows) (b .rows) (l .rows) n k })
+  same-carried u t h n e (ok a) (ok b) l k = inl (record { answer = l .answer; tables = same-rows-put u t (h .fronts) e (a .rows) (b .rows) (l .rows) n (k .0) (k .1) })
 
   same-wrap : (u : FirstTables) (t : Tables) → Carries u t → EarlyTables u → (firstBroken u ≡ false → On (firstView u)) → Unless told (firstWrap deny f u) (wrap deny g t)
   unfolding firstWrap wrap
@@ -81,7 +80,7 @@ module _ {A : Type 0} (deny : Refusal → A) (told : A → Type 0) (tells : told
       (λ b.
       let s = same-store u t (h .fronts) x b in
       let w = broken-false t (sym (same-broken u t h x) ∙ b) in
-      same-carried u t h (w .0) (s .eight) (f (firstView u)) (g (view t)) (alike (firstView u) (view t) (s .rows) (early-rows u t x (s .rows)) (on b)) (keeps (view t) (w .1)))
+      same-carried u t h (w .0) (s .eight) (f (firstView u)) (g (view t)) (alike (firstView u) (view t) (s .rows) (early-rows u t x (s .rows)) (on b)) (keeps (view t) (w .1) (w .2)))
 
 -- a step and a call that are refused for it, and a run that ends in that
 abbrev pub ToldStep : Answer → Type 0

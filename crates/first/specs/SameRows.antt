@@ -19,7 +19,7 @@ use Rattle.definition.specs.Lists.{every, all, isSome}
 use Rattle.definition.specs.Machine.{Value, emptyValue, intValue, nullValue, objectValue, unlistedValue, Object, owned, Objects, Frame, Progress, madeBy}
 use Rattle.definition.specs.Tables.{Rows, worldOf, framesIn}
 use Rattle.definition.specs.Broken.{entryFits, tieFits, subtypeFits, valueFits, localFits, objectFits, frameFits, numbered, sound}
-use Rattle.definition.specs.Calls.{Given, progressed, answerOf, defineRows, recordRows, startRows, dropRows, stepTask, stepOn, stepRows, RowCall, rowDefine, rowRecord, rowStart, rowDrop, onRowCall}
+use Rattle.definition.specs.Calls.{Given, closed, progressed, answerOf, defineRows, recordRows, startRows, dropRows, stepTask, stepOn, stepRows, RowCall, rowDefine, rowRecord, rowStart, rowDrop, onRowCall}
 use Rattle.first.specs.Machine.{FirstProgress}
 use Rattle.first.specs.Tables.{FirstRows, firstRowsOf, firstBaseOf, firstWorldOf}
 use Rattle.first.specs.Broken.{firstValueFits, firstLocalFits, firstObjectFits, firstFrameFits, firstClassesFit, firstSound}
@@ -145,7 +145,7 @@ module _ (os : List Object) (q : Rows) (h : SameObjects os (q .objects)) (e : Ea
   same-world = λ i. record { base = same-base q e i; ties = q .ties; subtypes = q .subtypes }
 
   -- a task's progress
-  same-progressed : (k : ℕ) (p : FirstProgress) (o : Progress) → SameProgress p o → SameRows (firstProgressed k (plain os q) p) (progressed k q o)
+  same-progressed : (k : ℕ) (p : FirstProgress) (o : Progress) → SameProgress p o → SameRows (firstProgressed k (plain os q) p) (closed (progressed k q o))
   same-progressed k p o g = record { rest = ap (firstProgressed k (plain os q)) (g .rest); objects = g .objects }
 
   -- a define that the first document's machine refuses for a hidden field is refused as a whole

@@ -15,6 +15,7 @@ use Rattle.layout.specs.View.{row-owner}
 use Rattle.layout.specs.ReadBack.{Lengths, put-lengths, counts-put, view-put}
 use Rattle.layout.specs.Unbroken.{true-whole}
 use Rattle.layout.specs.Whole.{Whole}
+use Rattle.layout.specs.Traced.{Traced}
 use Rattle.first.specs.Tables.{FirstTables, firstCountsLength, FirstRows, firstCountsOf, firstPut}
 use Rattle.first.specs.SameObjects.{SameObjects, noObjects, sameObject, same-count}
 use Rattle.first.specs.SameRows.{plain, SameRows}
@@ -56,7 +57,7 @@ unfolding writeRows putObjectRow
 cells-written os qs noObjects i t = refl
 cells-written os qs (sameObject {x = x} {os = os′} {qs = qs′} l h) i t = ap (λ (z : List ℕ). putObject z i x) (cells-written os′ qs′ h (suc i) t)
 
-module _ (u : FirstTables) (t : Tables) (h : Fronts u t) (eight : length (u .counts) ≡ firstCountsLength) (os : List Object) (q : Rows) (g : SameObjects os (q .objects)) (long : Lengths t) (w : Whole q) where
+module _ (u : FirstTables) (t : Tables) (h : Fronts u t) (eight : length (u .counts) ≡ firstCountsLength) (os : List Object) (q : Rows) (g : SameObjects os (q .objects)) (long : Lengths t) (w : Whole q) (b : Traced q) where
   abbrev counted : List ℕ
   counted = firstCountsOf (plain os q)
 
@@ -118,8 +119,8 @@ module _ (u : FirstTables) (t : Tables) (h : Fronts u t) (eight : length (u .cou
   }
 
   pub same-put : Carries (firstPut (plain os q) u) (put q t)
-  same-put = record { fronts = same-fronts; unbroken = λ _. true-whole q t long w }
+  same-put = record { fronts = same-fronts; unbroken = λ _. true-whole q t long w b }
 
-pub same-rows-put : (u : FirstTables) (t : Tables) → Fronts u t → length (u .counts) ≡ firstCountsLength → (r : FirstRows) (q : Rows) → SameRows r q → Lengths t → Whole q
+pub same-rows-put : (u : FirstTables) (t : Tables) → Fronts u t → length (u .counts) ≡ firstCountsLength → (r : FirstRows) (q : Rows) → SameRows r q → Lengths t → Whole q → Traced q
     → Carries (firstPut r u) (put q t)
-same-rows-put u t h eight r q s long w = rw (s .rest) (same-put u t h eight (r .objects) q (s .objects) long w)
+same-rows-put u t h eight r q s long w b = rw (s .rest) (same-put u t h eight (r .objects) q (s .objects) long w b)

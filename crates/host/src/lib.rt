@@ -11,7 +11,7 @@ ghost use Rattle.definition.specs.Lists.{writeRows};
 ghost use Rattle.definition.specs.Answers.{countOf, numberOf};
 ghost use Rattle.definition.specs.Reasons.{tries};
 ghost use Rattle.definition.specs.Tables.{tables};
-ghost use Rattle.definition.specs.Calls.{callBoot, callDefine, callRecord, callStart, callStep, callRun, callDrop, callSweep, loadDefine, loadRecord};
+ghost use Rattle.definition.specs.Calls.{callBoot, callDefine, callRecord, callStart, callStep, callRun, callDrop, callSweep, callTakeBack, loadDefine, loadRecord};
 ghost use Rattle.host.specs.Answers.{kindOf, numberGiven, Reported, Called, triedCells, TriedOn};
 
 // 0 accepted, 1 defined, 2 stepped, 3 ran, 4 denied, 5 swept.
@@ -325,6 +325,35 @@ pub extern "C" fn tariff_sweep(
 {
     let turn = tasks::turn(counts);
     let reply = sweeping::sweep(
+        counts,
+        classes,
+        kept,
+        cache,
+        ties,
+        subtypes,
+        objects,
+        frames,
+    );
+    report(answer, turn, reply)
+}
+
+// take back: the latest load that changed the store is undone, where no call closed it.
+#[no_mangle]
+pub extern "C" fn tariff_take_back(
+    counts: &mut [u16],
+    classes: &[u16],
+    kept: &[u8],
+    cache: &[u16],
+    ties: &[u16],
+    subtypes: &[u16],
+    objects: &[u32],
+    frames: &[u32],
+    answer: &mut [u32],
+) -> u8
+    ensures { λ r. ⌜ Called callTakeBack (tables (now (counts .entry)) (now (classes .entry)) (now (kept .entry)) (now (cache .entry)) (now (ties .entry)) (now (subtypes .entry)) (now (objects .entry)) (now (frames .entry))) (tables (now (counts .exit)) (now (classes .entry)) (now (kept .entry)) (now (cache .entry)) (now (ties .entry)) (now (subtypes .entry)) (now (objects .entry)) (now (frames .entry))) (now (answer .entry)) (now (answer .exit)) r ⌝ }
+{
+    let turn = tasks::turn(counts);
+    let reply = undoing::take_back(
         counts,
         classes,
         kept,

@@ -28,7 +28,7 @@ use Rattle.definition.specs.Loading.{newSubtypes, overrideTies, withClass, with
 use Rattle.definition.specs.File.{File, readFile, classOf}
 use Rattle.definition.specs.Tables.{Tables, shaped, Rows, framesIn, worldOf, view}
 use Rattle.definition.specs.Broken.{broken}
-use Rattle.definition.specs.Calls.{Call, callBoot, callStep, callRun, refusalsOf, RowCall, rowDefine, rowRecord, rowStart, rowDrop, rowSweep, rowTry, Load as Offer, loadDefine, loadRecord, callRows, loadRefusals, rowRefusals, turn}
+use Rattle.definition.specs.Calls.{Call, callBoot, callStep, callRun, refusalsOf, RowCall, rowDefine, rowRecord, rowStart, rowDrop, rowSweep, rowTry, rowTakeBack, Load as Offer, loadDefine, loadRecord, callRows, loadRefusals, rowRefusals, turn}
 use Rattle.laws.specs.Refusals.{running}
 
 -- a word by its number, and whether it applies
@@ -303,6 +303,7 @@ rowCauses (rowStart k l n m v) r = startCauses k l n m r
 rowCauses (rowDrop k) r = cause 3 (not (ltb k 2)) ∷ []
 rowCauses rowSweep r = []
 rowCauses (rowTry c n) r = secondly (cause 16 (ltb n 512)) (loadCauses c r)
+rowCauses rowTakeBack r = cause 19 (isEmpty (r .trace)) ∷ []
 
 unfoldable pub causes : Call → Tables → List Cause
 causes callBoot t = cause 1 (not (shaped t)) ∷ []
@@ -355,6 +356,7 @@ rows-order (rowDrop k) r = refl
 rows-order rowSweep r = refl
 rows-order (rowTry (loadDefine l bs) n) r = refl
 rows-order (rowTry (loadRecord l x c) n) r = refl
+rows-order rowTakeBack r = refl
 
 -- the words that `causes` lists stand in the paper's order
 pub in-order : (c : Call) (t : Tables) → words (causes c t) ≡ order c

@@ -27,8 +27,8 @@ use Rattle.definition.specs.File.{File, readFile}
 use Rattle.definition.specs.Instructions.{Decoded}
 use Rattle.definition.specs.Machine.{Value, emptyValue, intValue, nullValue, objectValue, unlistedValue, Object, Objects, Frame, Now, pop!, popAll!, int!, reference!, ofKind!, kind!, kinds!, compute, jumps, room!, object!, now, under!, give, execute, step}
 use Rattle.definition.specs.Loading.{define, recorded, started, withEntry}
-use Rattle.definition.specs.Tables.{Rows, worldOf}
-use Rattle.definition.specs.Calls.{Given, stepRefusals, loadRefusals, refusalsOf, Call, callBoot, callDefine, callRecord, callStart, callTry, callStep, callRun, callDrop, Load as Offer, loadDefine, loadRecord, loadRows, triedWith, tryRows, defineRows, recordRows, startRows, dropRows, sweepRows, stepTask, stepOn, stepRows, RowCall, rowDefine, rowRecord, rowStart, rowDrop, rowSweep, rowTry, onRowCall, callRows, rowRefusals}
+use Rattle.definition.specs.Tables.{Level, Rows, worldOf}
+use Rattle.definition.specs.Calls.{Given, stepRefusals, loadRefusals, refusalsOf, Call, callBoot, callDefine, callRecord, callStart, callTry, callStep, callRun, callDrop, Load as Offer, loadDefine, loadRecord, loadRows, triedWith, tryRows, defineRows, recordRows, startRows, dropRows, sweepRows, takenBack, callTakeBack, stepTask, stepOn, stepRows, RowCall, rowDefine, rowRecord, rowStart, rowDrop, rowSweep, rowTry, rowTakeBack, onRowCall, callRows, rowRefusals}
 
 -- what holds of the refusal, if it is one
 abbrev pub Refuses : {A : Type 0} → (Refusal → Type 0) → Result A → Type 0
@@ -234,6 +234,7 @@ RowNeeds (rowStart j k x m v) r l n = (l ≡ k) × (n ≡ x)
 RowNeeds (rowDrop j) r l n = ⊥
 RowNeeds rowSweep r l n = ⊥
 RowNeeds (rowTry c k) r l n = LoadNeeds c l n
+RowNeeds rowTakeBack r l n = ⊥
 
 abbrev pub Needs : Call → Rows → ℕ → ℕ → Type 0
 Needs callBoot r l n = ⊥
@@ -300,6 +301,11 @@ start-due k l n m v r =
 drop-due : (k : ℕ) (r : Rows) → Refuses (Due (callDrop k) r) (dropRows k r)
 unfolding dropRows refusalsOf rowRefusals any
 drop-due k r = on-need (Due (callDrop k) r) _ _ _ refl (λ _. tt)
+
+back-due : (ls : List Level) (r : Rows) → Refuses (Due callTakeBack r) (takenBack ls r)
+unfolding takenBack refusalsOf rowRefusals any
+back-due [] r = refl
+back-due (l ∷ ls) r = tt
 
 -- A tried load's are the load's, and 16
 
@@ -368,3 +374,4 @@ rows-due (rowStart k l n m v) r = start-due k l n m v r
 rows-due (rowDrop k) r = drop-due k r
 rows-due rowSweep r = unfold sweepRows in tt
 rows-due (rowTry c n) r = try-due c n r
+rows-due rowTakeBack r = back-due (r .trace) r

@@ -19,9 +19,9 @@ use Rattle.definition.specs.Answers.{number, Result, refused, ok}
 use Rattle.definition.specs.Classes.{find}
 use Rattle.definition.specs.Constraints.{World}
 use Rattle.definition.specs.Machine.{Frame}
-use Rattle.definition.specs.Tables.{Tables, shaped, Rows, worldOf, view, put}
+use Rattle.definition.specs.Tables.{Tables, shaped, Level, Rows, worldOf, view, put}
 use Rattle.definition.specs.Broken.{broken}
-use Rattle.definition.specs.Calls.{Given, bootRows, defineRows, recordRows, startRows, dropRows, sweepRows, answerOf, stepTask, stepOn, stepRows, Done, done, wrap, boot, stepTables, runFrom, run, Call, callBoot, callStep, callRun, stepRefusals, refusalsOf, perform, RowCall, rowDefine, rowRecord, rowStart, rowDrop, rowSweep, rowTry, Load, loadDefine, loadRecord, loadRows, tryRows, onRowCall, callRows}
+use Rattle.definition.specs.Calls.{Given, bootRows, defineRows, recordRows, startRows, dropRows, sweepRows, takenBack, answerOf, stepTask, stepOn, stepRows, Done, done, wrap, boot, stepTables, runFrom, run, Call, callBoot, callStep, callRun, stepRefusals, refusalsOf, perform, RowCall, rowDefine, rowRecord, rowStart, rowDrop, rowSweep, rowTry, rowTakeBack, Load, loadDefine, loadRecord, loadRows, tryRows, onRowCall, callRows}
 use Rattle.laws.specs.Wrapped.{wrapped, Ok, then, ok-at}
 use Rattle.laws.specs.Runs.{after, run-is, run-ends-refused}
 use Rattle.laws.specs.Refusals.{unmoved, try-either, Refuses, Needs, Due, due-listed, step-due, rows-due}
@@ -73,6 +73,11 @@ try-taken c n r = try-either (λ o. Ok o Taken) c n r tt (go (loadRows c r) (loa
     go (refused w) h = tt
     go (ok g) h = h
 
+back-taken : (ls : List Level) (r : Rows) → Ok (takenBack ls r) Taken
+unfolding takenBack
+back-taken [] r = tt
+back-taken (l ∷ ls) r = refl
+
 pub rows-taken : (c : RowCall) (r : Rows) → Ok (onRowCall c r) Taken
 rows-taken (rowDefine l bs) r = define-taken l bs r
 rows-taken (rowRecord l n c) r = record-taken l n c r
@@ -80,6 +85,7 @@ rows-taken (rowStart k l n m v) r = start-taken k l n m v r
 rows-taken (rowDrop k) r = drop-taken k r
 rows-taken rowSweep r = unfold sweepRows in refl
 rows-taken (rowTry c n) r = try-taken c n r
+rows-taken rowTakeBack r = back-taken (r .trace) r
 
 answer-went : (k : ℕ) (o : Option ℕ) → refusal (Stepped (answerOf k o)) ≡ none
 unfolding answerOf

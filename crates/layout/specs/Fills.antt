@@ -6,19 +6,20 @@ use Prim.Native.Nat.{ℕ, zero, suc, _+_, _<_, _≤_}
 use native.Mathlib.Omega.{arith}
 use lib.ListN.{length, getD, set, length-append, length-set}
 use lib.Seq.{getD-set-other}
-use Rattle.definition.specs.Numbers.{ownersCell, tieNumbersCell, subtypeNumbersCell}
+use Rattle.definition.specs.Numbers.{ownersCell, tieNumbersCell, subtypeNumbersCell, loadsCell}
 use Rattle.definition.specs.Lists.{rows, writeRows, stack, writeStack}
 use Rattle.definition.specs.Requests.{at}
 use Rattle.definition.specs.Classes.{Base}
 use Rattle.definition.specs.Constraints.{Tie, Subtype}
 use Rattle.definition.specs.Machine.{Value, Object, Objects, unused, made, rewritten, changed, Frame}
 use Rattle.definition.specs.Sweeping.{sweptFrom}
-use Rattle.definition.specs.Tables.{Tables, tables, RowNumbers, rowNumbers, Rows, putClassRow, putEntry, putTie, putSubtype, usedFields, objectAt, putObject, putField, ownedBy, ownerAt, putOwner, objectRowAt, putObjectRow, numberAt, putNumber, frameIn, putFrameIn, classRowsOf, keptOf, cacheOf, tiesOf, subtypesOf, numbersOf, viewBase, objectsOf, framesOf, viewOver, view, countsOf, putNumbers, put}
+use Rattle.definition.specs.Tables.{Tables, tables, RowNumbers, rowNumbers, Level, Rows, putClassRow, putEntry, putTie, putSubtype, usedFields, objectAt, putObject, putField, ownedBy, ownerAt, putOwner, objectRowAt, putObjectRow, numberAt, putNumber, levelAt, frameIn, putFrameIn, classRowsOf, keptOf, cacheOf, tiesOf, subtypesOf, numbersOf, traceOf, viewBase, objectsOf, framesOf, viewOver, view, countsOf, putNumbers, putTrace, put}
 use Rattle.layout.specs.Places.{rows-length, stack-length, writeStack-same, written-set}
 use Rattle.layout.specs.Rows.{RowLaws, Anything, rows-kept, rows-more, row-more, class-rows, entry-rows, tie-rows, subtype-rows, cell-rows}
 use Rattle.layout.specs.ObjectRows.{withField, object-field}
 use Rattle.layout.specs.OwnedRows.{SameOwners, owners-set, owners-past, rowsWith, made-count, changed-length, swept-length, rows-swept, rows-same, owners-same, rows-made, owners-made, rows-changed, owners-changed}
-use Rattle.layout.specs.NumberedRows.{SameNumbers, numbers-more, numbers-kept, numbers-before}
+use Rattle.layout.specs.NumberedRows.{SameNumbers, numbers-more, numbers-kept, numbers-before, numbers-behind}
+use Rattle.layout.specs.TracedRows.{SameTrace, trace-kept, trace-fewer}
 use Rattle.layout.specs.FrameRows.{frameIn-same}
 
 -- the count in cell i
@@ -58,19 +59,25 @@ pub record FillsObjects (xs : Objects) (c t : List ℕ) (n : ℕ) (leaves : List
 
 pub record FillsNumbers (ns : RowNumbers) (c : List ℕ) (leaves : List ℕ → List ℕ) : Type 0 where
   pub cells : (d : List ℕ) → SameNumbers c d → putNumbers ns d ≡ leaves d
+  pub trace : (d : List ℕ) → SameTrace d (leaves d)
+
+-- The trace, that leaves what `leaves` says where it is written into d, which has the trace of c
+
+pub record FillsTrace (ls : List Level) (c : List ℕ) (leaves : List ℕ → List ℕ) : Type 0 where
+  pub cells : (d : List ℕ) → SameTrace c d → putTrace ls d ≡ leaves d
 
 -- the tables that rows leave, part by part, the counts last
-pub put-fills : (r : Rows) (t : Tables) {n0 n1 n2 n3 n4 n5 n6 n7 : ℕ} {n c k e i s o f : List ℕ} {m v : List ℕ → List ℕ}
+pub put-fills : (r : Rows) (t : Tables) {n0 n1 n2 n3 n4 n5 n6 n7 : ℕ} {n c k e i s o f : List ℕ} {m v z : List ℕ → List ℕ}
     → Fills putClassRow (r .classes) (t .classes) n0 c → Fills set (r .kept) (t .kept) n1 k → Fills putEntry (r .cache) (t .cache) n2 e
     → Fills putTie (r .ties) (t .ties) n3 i → Fills putSubtype (r .subtypes) (t .subtypes) n4 s → FillsObjects (r .objects) (t .counts) (t .objects) n5 m o
     → FillsFrames (r .quote) (r .report) (t .frames) n6 n7 f
-    → FillsNumbers (r .numbers) (t .counts) v
+    → FillsNumbers (r .numbers) (t .counts) v → FillsTrace (r .trace) (t .counts) z
     → FillsCounts (n0 ∷ n1 ∷ n2 ∷ n3 ∷ n4 ∷ n5 ∷ n6 ∷ n7 ∷ []) (t .counts) n
-    → put r t ≡ tables (v (m n)) c k e i s o f
+    → put r t ≡ tables (z (v (m n))) c k e i s o f
 unfolding put countsOf
-put-fills r t a b c d e f g v n =
+put-fills r t a b c d e f g v z n =
     (λ j. record {
-      counts = putNumbers (r .numbers) (writeRows putOwner (r .objects) 0 (writeRows set (a .count j ∷ b .count j ∷ c .count j ∷ d .count j ∷ e .count j ∷ f .count j ∷ g .quote j ∷ g .report j ∷ []) 0 (t .counts)));
+      counts = putTrace (r .trace) (putNumbers (r .numbers) (writeRows putOwner (r .objects) 0 (writeRows set (a .count j ∷ b .count j ∷ c .count j ∷ d .count j ∷ e .count j ∷ f .count j ∷ g .quote j ∷ g .report j ∷ []) 0 (t .counts))));
       classes = a .cells j;
       kept = b .cells j;
       cache = c .cells j;
@@ -79,7 +86,7 @@ put-fills r t a b c d e f g v n =
       objects = f .cells j;
       frames = g .cells j;
     })
-    ∙ rw (n .fill .cells, f .owners _ (n .owners), v .cells _ (λ j l. f .numbers _ j l ∙ n .numbers j l))
+    ∙ rw (n .fill .cells, f .owners _ (n .owners), v .cells _ (λ j l. f .numbers _ j l ∙ n .numbers j l), z .cells _ (λ j l. v .trace _ j l ∙ (f .numbers _ j (omega arith) ∙ n .numbers j (omega arith))))
 
 -- Rows as they were read, and with others behind them
 
@@ -194,28 +201,59 @@ module _ (t : Tables) where
     cells = λ d h.
         ap (writeRows (putNumber tieNumbersCell) (numbersOf t .ties) 0) (numbers-kept subtypeNumbersCell (t .counts) d (countAt t 4) (λ i l. h (subtypeNumbersCell + i) (omega arith)))
         ∙ numbers-kept tieNumbersCell (t .counts) d (countAt t 3) (λ i l. h (tieNumbersCell + i) (omega arith));
+    trace = λ d j l. refl;
   }
 
-  pub ties-numbered : (us : List ℕ)
+  pub ties-numbered : (us : List ℕ) → countAt t 3 + length us ≤ 256
       → FillsNumbers (rowNumbers (numbersOf t .ties ++ us) (numbersOf t .subtypes)) (t .counts) (λ d. writeRows (putNumber tieNumbersCell) us (countAt t 3) d)
   unfolding putNumbers numberAt
-  ties-numbered us = record {
+  ties-numbered us room = record {
     cells = λ d h.
         ap (writeRows (putNumber tieNumbersCell) (numbersOf t .ties ++ us) 0) (numbers-kept subtypeNumbersCell (t .counts) d (countAt t 4) (λ i l. h (subtypeNumbersCell + i) (omega arith)))
         ∙ numbers-more tieNumbersCell (t .counts) d (countAt t 3) us (λ i l. h (tieNumbersCell + i) (omega arith));
+    trace = λ d j l. numbers-behind tieNumbersCell us (countAt t 3) d j (omega arith);
   }
 
-  pub both-numbered : (us ss : List ℕ) → countAt t 3 ≤ 256
+  pub both-numbered : (us ss : List ℕ) → countAt t 3 + length us ≤ 256 → countAt t 4 + length ss ≤ 256
       → FillsNumbers (rowNumbers (numbersOf t .ties ++ us) (numbersOf t .subtypes ++ ss)) (t .counts)
       (λ d. writeRows (putNumber tieNumbersCell) us (countAt t 3) (writeRows (putNumber subtypeNumbersCell) ss (countAt t 4) d))
   unfolding putNumbers numberAt
-  both-numbered us ss room = record {
+  both-numbered us ss room space = record {
     cells = λ d h.
         let e : List ℕ = writeRows (putNumber subtypeNumbersCell) ss (countAt t 4) d in
         ap (writeRows (putNumber tieNumbersCell) (numbersOf t .ties ++ us) 0) (numbers-more subtypeNumbersCell (t .counts) d (countAt t 4) ss (λ i l. h (subtypeNumbersCell + i) (omega arith)))
         ∙ numbers-more tieNumbersCell (t .counts) e (countAt t 3) us
         (λ i l. numbers-before subtypeNumbersCell ss (countAt t 4) d (tieNumbersCell + i) (omega arith) ∙ h (tieNumbersCell + i) (omega arith));
+    trace = λ d j l.
+        numbers-behind tieNumbersCell us (countAt t 3) (writeRows (putNumber subtypeNumbersCell) ss (countAt t 4) d) j (omega arith)
+        ∙ numbers-behind subtypeNumbersCell ss (countAt t 4) d j (omega arith);
   }
+
+  -- the trace as it is, none, and any
+  pub trace-fill : FillsTrace (traceOf t) (t .counts) (λ d. d)
+  trace-fill = record { cells = λ d h. trace-kept (t .counts) d h }
+
+  pub trace-closed : FillsTrace [] (t .counts) (λ d. set d loadsCell 0)
+  unfolding putTrace writeStack
+  trace-closed = record { cells = λ d h. refl }
+
+  pub trace-first : (n : ℕ) → FillsTrace (stack (levelAt (t .counts)) n) (t .counts) (λ d. set d loadsCell n)
+  trace-first n = record { cells = λ d h. trace-fewer (t .counts) d n h }
+
+  -- the first n numbers of each kind
+  pub numbers-first : (n m : ℕ) → n ≤ 256
+      → FillsNumbers (rowNumbers (rows (numberAt tieNumbersCell (t .counts)) n 0) (rows (numberAt subtypeNumbersCell (t .counts)) m 0)) (t .counts) (λ d. d)
+  unfolding putNumbers numberAt
+  numbers-first n m room = record {
+    cells = λ d h.
+        ap (writeRows (putNumber tieNumbersCell) (rows (numberAt tieNumbersCell (t .counts)) n 0) 0)
+        (numbers-kept subtypeNumbersCell (t .counts) d m (λ i l. h (subtypeNumbersCell + i) (omega arith)))
+        ∙ numbers-kept tieNumbersCell (t .counts) d n (λ i l. h (tieNumbersCell + i) (omega arith));
+    trace = λ d j l. refl;
+  }
+
+  pub trace-put : (ls : List Level) → FillsTrace ls (t .counts) (putTrace ls)
+  trace-put ls = record { cells = λ d h. refl }
 
   -- frames as they are
   pub frames-fill : FillsFrames (framesOf t 0) (framesOf t 1) (t .frames) (countAt t 6) (countAt t 7) (t .frames)
@@ -233,7 +271,7 @@ module _ (t : Tables) where
 pub put-over : (b : Base) (t : Tables) → put (viewOver b t) t ≡ t
 unfolding viewOver
 put-over b t =
-    put-fills (viewOver b t) t (classes-fill t) (kept-fill t) (cache-fill t) (ties-fill t) (subtypes-fill t) (objects-fill t b) (frames-fill t) (numbers-fill t) (counts-fill t)
+    put-fills (viewOver b t) t (classes-fill t) (kept-fill t) (cache-fill t) (ties-fill t) (subtypes-fill t) (objects-fill t b) (frames-fill t) (numbers-fill t) (trace-fill t) (counts-fill t)
 
 pub put-view : (t : Tables) → put (view t) t ≡ t
 unfolding view

@@ -6,7 +6,8 @@ use mathlib.Core.List.{List, [], _∷_, _++_, List·Memᴰ, List·Memᴰ·head, 
 use mathlib.Core.Logic.{_⊎_, inl, inr}
 use Prim.Native.Nat.{ℕ, zero, suc, _+_, _-_, _<_, _≤_}
 use native.Mathlib.Omega.{arith}
-use lib.ListN.{length, length-append}
+use lib.ListN.{length, take, length-append}
+use lib.Seq.{length-take-le}
 use lib.Dec.{eqb}
 use borrow.Author.Tests.{eqb-true, eqb-false, eq-eqb, ne-eqb}
 use Rattle.definition.specs.Lists.{rows}
@@ -14,7 +15,7 @@ use Rattle.definition.specs.Constraints.{Tie, Subtype}
 use Rattle.definition.specs.Tables.{RowNumbers, Rows}
 use Rattle.definition.specs.Broken.{next, others, inTurn, numbered}
 use Rattle.definition.specs.Calls.{numbersFrom, numberedOn}
-use Rattle.layout.specs.Tests.{All}
+use Rattle.layout.specs.Tests.{All, all-more}
 use Rattle.layout.specs.Places.{rows-length}
 use Rattle.layout.specs.Whole.{Numbered, Numbering}
 
@@ -287,3 +288,51 @@ numbers-below t s n h =
     all-members : {P : ℕ → Type 0} (xs : List ℕ) → ((i : ℕ) → List·Memᴰ i xs → P i) → All P xs
     all-members [] f = tt
     all-members (x ∷ xs) f = (f x (List·Memᴰ·head refl), all-members xs (λ i m. f i (List·Memᴰ·tail m)))
+
+-- The first numbers of each table, as a taking back leaves them, are in turn exactly if each is below their count; the other way is `numbers-below`
+
+rises-first : (k a : ℕ) (xs : List ℕ) → RisesFrom k xs → RisesFrom k (take a xs)
+rises-first k zero xs h = tt
+rises-first k (suc a) [] h = tt
+rises-first k (suc a) (x ∷ xs) h = (h .0, rises-first (suc x) a xs (h .1))
+
+rises-far : (k m : ℕ) (xs : List ℕ) → RisesFrom k xs → All (λ i. i < m) xs → k ≤ m → k + length xs ≤ m
+rises-far k m [] h a l = omega arith
+rises-far k m (x ∷ xs) h a l = let f = rises-far (suc x) m xs (h .1) (a .1) (omega (arith, a .0)) in omega (arith, f, h .0)
+
+next-first : (k a : ℕ) (xs : List ℕ) → next k xs ≡ false → next k (take a xs) ≡ false
+unfolding next
+next-first k zero xs h = refl
+next-first k (suc a) [] h = refl
+next-first k (suc a) (x ∷ xs) h = h
+
+pub first-turn : (n k a b p : ℕ) (ts ss : List ℕ) → p ≡ a + b → length ts + length ss ≡ n → inTurn n k ts ss ≡ true → a ≤ length ts → b ≤ length ss
+    → All (λ i. i < k + p) (take a ts) → All (λ i. i < k + p) (take b ss) → inTurn p k (take a ts) (take b ss) ≡ true
+unfolding next others
+first-turn n k a b zero ts ss q l h c d x y = unfold inTurn in refl
+first-turn zero k a b (suc p) ts ss q l h c d x y = absurd (omega arith)
+first-turn (suc n) k a b (suc p) ts ss q l h c d x y =
+    go (λ a b ts ss q l h c d x y. first-turn n (suc k) a b p ts ss q l h c d x y) ts ss l (turn-is n k ts ss h) a b q c d x y
+  where
+    shift : (xs : List ℕ) → All (λ i. i < k + suc p) xs → All (λ i. i < suc k + p) xs
+    shift xs h = all-more (λ i l. omega arith) xs h
+
+    go : ((a b : ℕ) (ts ss : List ℕ) → p ≡ a + b → length ts + length ss ≡ n → inTurn n (suc k) ts ss ≡ true → a ≤ length ts → b ≤ length ss → All (λ i. i < suc k + p) (take a ts)
+        → All (λ i. i < suc k + p) (take b ss) → inTurn p (suc k) (take a ts) (take b ss) ≡ true)
+        → (ts ss : List ℕ) → length ts + length ss ≡ suc n → Turn n k ts ss → (a b : ℕ) → suc p ≡ a + b → a ≤ length ts → b ≤ length ss → All (λ i. i < k + suc p) (take a ts)
+        → All (λ i. i < k + suc p) (take b ss) → inTurn (suc p) k (take a ts) (take b ss) ≡ true
+    go on [] ss l (inl h) a b q c d x y = absurd (false≢true (h .0))
+    go on (t ∷ ts) ss l (inl h) zero b q c d x y =
+        let w = turn-words n (suc k) ts ss (omega arith) (h .1) in
+        let f = rises-far (suc k) (k + suc p) (take b ss) (rises-first (suc k) b ss (w .subtypes)) y (omega arith) in
+        absurd (omega (arith, f, length-take-le b ss d))
+    go on (t ∷ ts) ss l (inl h) (suc a) b q c d x y =
+        is-turn p k (t ∷ take a ts) (take b ss) (inl (h .0, on a b ts ss (omega arith) (omega arith) (h .1) (omega arith) d (shift (take a ts) (x .1)) (shift (take b ss) y)))
+    go on ts [] l (inr h) a b q c d x y = absurd (false≢true (h .1 .0))
+    go on ts (s ∷ ss) l (inr h) a zero q c d x y =
+        let w = turn-words n (suc k) ts ss (omega arith) (h .1 .1) in
+        let f = rises-far (suc k) (k + suc p) (take a ts) (rises-first (suc k) a ts (w .ties)) x (omega arith) in
+        absurd (omega (arith, f, length-take-le a ts c))
+    go on ts (s ∷ ss) l (inr h) a (suc b) q c d x y =
+        is-turn p k (take a ts) (s ∷ take b ss)
+        (inr (next-first k a ts (h .0), (h .1 .0, on a b ts ss (omega arith) (omega arith) (h .1 .1) c (omega arith) (shift (take a ts) x) (shift (take b ss) (y .1)))))

@@ -6,10 +6,12 @@ pub mod Values
 pub mod ObjectRows
 pub mod OwnedRows
 pub mod NumberedRows
+pub mod TracedRows
 pub mod InTurn
 pub mod FrameRows
 pub mod Cells
 pub mod Whole
+pub mod Traced
 pub mod ReadBack
 pub mod Unbroken
 pub mod Zeros

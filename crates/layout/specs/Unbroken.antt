@@ -6,16 +6,17 @@ use mathlib.Core.List.{List}
 use Prim.Native.Nat.{ℕ, zero, suc, _*_, _≤_, _<_}
 use lib.ListN.{length, getD}
 use borrow.Author.Tests.{leb-true, le-leb, not-false}
-use Rattle.definition.specs.Numbers.{tieNumbersCell, subtypeNumbersCell}
+use Rattle.definition.specs.Numbers.{tieNumbersCell, subtypeNumbersCell, loadsCell}
 use Rattle.definition.specs.Lists.{rows, stack}
 use Rattle.definition.specs.Classes.{Base}
 use Rattle.definition.specs.Machine.{Exists}
-use Rattle.definition.specs.Tables.{Tables, Rows, sizeOf, usedFields, classRowAt, entryAt, tieAt, subtypeAt, objectAt, ownedBy, ownerAt, objectRowAt, numberAt, localAt, fieldAt, frameOf, frameAt, frameBase, frameIn, classRowsOf, keptOf, cacheOf, viewBase, objectsOf, framesOf, viewOver, view, put}
+use Rattle.definition.specs.Tables.{Tables, Rows, sizeOf, usedFields, classRowAt, entryAt, tieAt, subtypeAt, objectAt, ownedBy, ownerAt, objectRowAt, numberAt, levelAt, localAt, fieldAt, frameOf, frameAt, frameBase, frameIn, classRowsOf, keptOf, cacheOf, viewBase, objectsOf, framesOf, viewOver, view, put}
 use Rattle.definition.specs.Broken.{within, whole, broken}
 use Rattle.layout.specs.Tests.{All, every-true, true-every}
 use Rattle.layout.specs.Places.{rows-length, stack-length}
 use Rattle.layout.specs.ObjectRows.{used-all}
 use Rattle.layout.specs.Whole.{RowSound, Framed, RowOwned, Frames, Limits, Whole, Sound, sound-true, sound-is, whole-sound}
+use Rattle.layout.specs.Traced.{Traced, fits-trace, trace-fits}
 use Rattle.layout.specs.ReadBack.{Lengths, shaped-true, true-shaped, put-lengths, size-small, view-put}
 
 -- Counts within their limits
@@ -29,6 +30,7 @@ pub record Counts (c : List ℕ) : Type 0 where
   pub objects : getD c 5 0 ≤ 256
   pub quote : getD c 6 0 ≤ 32
   pub report : getD c 7 0 ≤ 32
+  pub trace : getD c loadsCell 0 ≤ 32
 
 pub within-true : (c : List ℕ) → within c ≡ true → Counts c
 unfolding within
@@ -43,6 +45,7 @@ within-true c h =
       objects = leb-true _ _ (p .1 .1 .1 .1 .1 .0);
       quote = leb-true _ _ (p .1 .1 .1 .1 .1 .1 .0);
       report = leb-true _ _ (p .1 .1 .1 .1 .1 .1 .1 .0);
+      trace = leb-true _ _ (p .1 .1 .1 .1 .1 .1 .1 .1 .0);
     }
 
 pub true-within : (c : List ℕ) → Counts c → within c ≡ true
@@ -56,28 +59,29 @@ true-within c h =
           le-leb _ _ (h .cache),
           (
             le-leb _ _ (h .ties),
-            (le-leb _ _ (h .subtypes), (le-leb _ _ (h .objects), (le-leb _ _ (h .quote), (le-leb _ _ (h .report), tt)))),
+            (le-leb _ _ (h .subtypes), (le-leb _ _ (h .objects), (le-leb _ _ (h .quote), (le-leb _ _ (h .report), (le-leb _ _ (h .trace), tt))))),
           ),
         ),
       ),
     )
 
--- Word 1, in full: the published lengths, counts within their limits, sound rows
+-- Word 1, in full: the published lengths, counts within their limits, sound rows, and each load that can be taken back leaves sound rows
 
 pub record Unbroken (t : Tables) : Type 0 where
   pub lengths : Lengths t
   pub counts : Counts (t .counts)
   pub sounds : Sound (view t)
+  pub traces : Traced (view t)
 
 pub unbroken : (t : Tables) → broken t ≡ false → Unbroken t
 unfolding broken whole
 unbroken t h =
     let p = every-true _ (not-false (whole t) h) in
-    record { lengths = shaped-true t (p .0); counts = within-true (t .counts) (p .1 .0); sounds = sound-true (view t) (p .1 .1 .0) }
+    record { lengths = shaped-true t (p .0); counts = within-true (t .counts) (p .1 .0); sounds = sound-true (view t) (p .1 .1 .0); traces = fits-trace (view t .trace) (view t) (p .1 .1 .1 .0) }
 
 pub unbroken-is : (t : Tables) → Unbroken t → broken t ≡ false
 unfolding broken whole
-unbroken-is t u = ap not (true-every _ (true-shaped t (u .lengths), (true-within (t .counts) (u .counts), (sound-is (view t) (u .sounds), tt))))
+unbroken-is t u = ap not (true-every _ (true-shaped t (u .lengths), (true-within (t .counts) (u .counts), (sound-is (view t) (u .sounds), (trace-fits (view t .trace) (view t) (u .traces), tt)))))
 
 -- The counts are the numbers of rows read
 
@@ -92,6 +96,7 @@ view-limits t c = record {
   objects = rw (rows-length (objectRowAt (viewBase t) (t .counts) (t .objects)) (getD (t .counts) 5 0) 0) (c .objects);
   quote = rw (stack-length (frameIn (t .frames) 0) (getD (t .counts) 6 0)) (c .quote);
   report = rw (stack-length (frameIn (t .frames) 1) (getD (t .counts) 7 0)) (c .report);
+  trace = rw (stack-length (levelAt (t .counts)) (getD (t .counts) loadsCell 0)) (c .trace);
 }
 
 limits-view : (t : Tables) → Limits (view t) → Counts (t .counts)
@@ -105,6 +110,7 @@ limits-view t m = record {
   objects = rw (rows-length (objectRowAt (viewBase t) (t .counts) (t .objects)) (getD (t .counts) 5 0) 0) at (m .objects);
   quote = rw (stack-length (frameIn (t .frames) 0) (getD (t .counts) 6 0)) at (m .quote);
   report = rw (stack-length (frameIn (t .frames) 1) (getD (t .counts) 7 0)) at (m .report);
+  trace = rw (stack-length (levelAt (t .counts)) (getD (t .counts) loadsCell 0)) at (m .trace);
 }
 
 -- objects that are read have their class's number of fields, frames that are read have 8 locals
@@ -160,12 +166,12 @@ view-whole t c s = record {
 
 -- Tables that are not broken show whole rows, and tables of the published lengths that show whole rows are not broken
 
-pub broken-false : (t : Tables) → broken t ≡ false → Lengths t × Whole (view t)
-broken-false t h = let u = unbroken t h in (u .lengths, view-whole t (u .counts) (u .sounds))
+pub broken-false : (t : Tables) → broken t ≡ false → Lengths t × Whole (view t) × Traced (view t)
+broken-false t h = let u = unbroken t h in (u .lengths, view-whole t (u .counts) (u .sounds), u .traces)
 
-pub false-broken : (t : Tables) → Lengths t → Whole (view t) → broken t ≡ false
-false-broken t l w = unbroken-is t (record { lengths = l; counts = limits-view t (w .limits); sounds = whole-sound (view t) w })
+pub false-broken : (t : Tables) → Lengths t → Whole (view t) → Traced (view t) → broken t ≡ false
+false-broken t l w b = unbroken-is t (record { lengths = l; counts = limits-view t (w .limits); sounds = whole-sound (view t) w; traces = b })
 
 -- whole rows that are put leave tables that are not broken
-pub true-whole : (r : Rows) (t : Tables) → Lengths t → Whole r → broken (put r t) ≡ false
-true-whole r t l w = false-broken (put r t) (put-lengths r t l) (rw (view-put r t l w) w)
+pub true-whole : (r : Rows) (t : Tables) → Lengths t → Whole r → Traced r → broken (put r t) ≡ false
+true-whole r t l w b = false-broken (put r t) (put-lengths r t l) (rw (view-put r t l w) w) (rw (view-put r t l w) b)

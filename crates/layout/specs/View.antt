@@ -5,61 +5,73 @@ use mathlib.Core.Option.{none, some, Option·some-injective, Option·none-ne-som
 use mathlib.Core.List.{List, [], _∷_, _++_, map, append-nil}
 use Prim.Native.Nat.{ℕ, zero, suc, _+_, _*_, _<_, _≤_}
 use native.Mathlib.Omega.{arith}
-use lib.ListN.{length, getElem?, getD, set, length-map}
+use lib.ListN.{length, getElem?, getD, set, take, length-map, length-append}
 use lib.Seq.{set-getD}
 use lib.Dec.{ltb}
-use borrow.Author.Tests.{ltb-true, ltb-false}
-use Rattle.definition.specs.Numbers.{tieNumbersCell, subtypeNumbersCell}
+use borrow.Author.Tests.{ltb-true, ltb-false, lt-ltb}
+use Rattle.definition.specs.Numbers.{tieNumbersCell, subtypeNumbersCell, loadsCell, traceLimit}
 use Rattle.definition.specs.Lists.{rows, writeRows, stack, writeStack}
-use Rattle.definition.specs.Requests.{at}
+use Rattle.definition.specs.Requests.{Request, at}
 use Rattle.definition.specs.Classes.{Base, Class}
 use Rattle.definition.specs.Constraints.{Tie, Subtype}
 use Rattle.definition.specs.Machine.{Value, Frame, Progress, ObjectRow, objectHeld, existing}
 use Rattle.definition.specs.Loading.{withClass, withEntry}
 use Rattle.definition.specs.Sweeping.{sweptFrom}
-use Rattle.definition.specs.Tables.{Tables, tables, classAt, worldOf, putThree, classRowAt, putClassRow, putEntry, putTie, putSubtype, objectAt, ownedBy, ownerOf, ownerAt, objectRowAt, putNumber, localAt, putLocal, operandAt, putOperand, frameOf, putFrame, frameBase, frameIn, putFrameIn, classRowsOf, keptOf, tiesOf, subtypesOf, viewBase, objectsOf, framesOf, viewOver, put, withObjects, withFrames, putOwner}
-use Rattle.definition.specs.Calls.{numbersFrom, numberedOn, addFile, addEntry, progressed}
-use Rattle.layout.specs.Places.{rows-map, rows-there, rows-past, stack-length, stack-cong, writeStack-above, writeStack-two}
-use Rattle.layout.specs.Rows.{class-rows, entry-rows, cell-rows}
+use Rattle.definition.specs.Tables.{Tables, tables, Level, Rows, classAt, levelOf, cutTo, levelAt, rowNumbers, numberAt, entryAt, tieAt, subtypeAt, worldOf, putThree, classRowAt, putClassRow, putEntry, putTie, putSubtype, objectAt, ownedBy, ownerOf, ownerAt, objectRowAt, putNumber, localAt, putLocal, operandAt, putOperand, frameOf, putFrame, frameBase, frameIn, putFrameIn, classRowsOf, keptOf, cacheOf, tiesOf, subtypesOf, traceOf, viewBase, objectsOf, framesOf, viewOver, putTrace, put, withCache, withTrace, withObjects, withFrames, putOwner}
+use Rattle.definition.specs.Calls.{numbersFrom, numberedOn, remembered, closed, addFile, entryTrace, addEntry, progressed}
+use Rattle.layout.specs.Places.{rows-length, rows-part, rows-map, rows-there, rows-past, stack-length, stack-cong, writeStack-above, writeStack-two}
+use Rattle.layout.specs.Rows.{class-rows, entry-rows, tie-rows, subtype-rows, cell-rows}
 use Rattle.layout.specs.OwnedRows.{owner-is}
 use Rattle.layout.specs.NumberedRows.{numbered-on, ties-numbered-on}
 use Rattle.layout.specs.Values.{Unread, unread-value}
 use Rattle.layout.specs.FrameRows.{moved, frameWith, withValue, frame-kept, frame-above, frame-local, frame-given, frameIn-same, frame-unread, unread-frame}
 pub use Rattle.layout.specs.Fills.{countAt, Fills, FillsObjects, classes-fill, kept-fill, objects-fill, object-made, object-set, put-view, FillsTask}
-use Rattle.layout.specs.Fills.{FillsCounts, FillsNumbers, numbers-fill, ties-numbered, both-numbered, put-fills, fill-more, fill-last, count-set, countsOn, counts-fill, objects-swept, cache-fill, ties-fill, ties-more, subtypes-fill, subtypes-more, frames-fill, quote-fill, report-fill}
+use Rattle.layout.specs.Fills.{FillsCounts, FillsNumbers, numbers-fill, trace-closed, trace-put, trace-first, numbers-first, fill-kept, ties-numbered, both-numbered, put-fills, fill-more, fill-last, count-set, countsOn, counts-fill, objects-swept, cache-fill, ties-fill, ties-more, subtypes-fill, subtypes-more, frames-fill, quote-fill, report-fill}
+
+-- an entry that is added is remembered
+pub entry-added : (r : Rows) (q : Request) (c : ℕ) → addEntry r (withEntry (worldOf r) q c) ≡ remembered r (withCache (r .cache ++ (record { request = q; class = c } ∷ [])) r)
+unfolding entryTrace
+entry-added r q c =
+    ap (λ (u : Bool). withTrace (elim u as (λ _. List Level) [ true ↦ take traceLimit (levelOf r ∷ r .trace) | false ↦ r .trace ]) (withCache (r .cache ++ (record { request = q; class = c } ∷ [])) r))
+    (lt-ltb (length (r .cache)) (length (r .cache ++ (record { request = q; class = c } ∷ []))) (omega (arith, length-append (r .cache) (record { request = q; class = c } ∷ []))))
 
 -- What the calls put
 
 module _ (b : Base) (t : Tables) where
   -- a task's frames alone
   pub frames-writes : (k : ℕ) (fs : List Frame) (n : ℕ) (u : List ℕ) → k < 2 → FillsTask k fs t n u
-      → put (withFrames k fs (viewOver b t)) t
-      ≡ tables (set (t .counts) (6 + k) n) (t .classes) (t .kept) (t .cache) (t .ties) (t .subtypes) (t .objects) u
+      → put (closed (withFrames k fs (viewOver b t))) t
+      ≡ tables (set (set (t .counts) (6 + k) n) loadsCell 0) (t .classes) (t .kept) (t .cache) (t .ties) (t .subtypes) (t .objects) u
   unfolding viewOver
   frames-writes zero fs n u two h =
-      put-fills (withFrames 0 fs (viewOver b t)) t (classes-fill t) (kept-fill t) (cache-fill t) (ties-fill t) (subtypes-fill t) (objects-fill t b)
-      (quote-fill t fs n u h) (numbers-fill t) (count-set 6 n (omega arith) (counts-fill t))
+      put-fills (closed (withFrames 0 fs (viewOver b t))) t (classes-fill t) (kept-fill t) (cache-fill t) (ties-fill t) (subtypes-fill t) (objects-fill t b)
+      (quote-fill t fs n u h) (numbers-fill t) (trace-closed t) (count-set 6 n (omega arith) (counts-fill t))
   frames-writes (suc zero) fs n u two h =
-      put-fills (withFrames 1 fs (viewOver b t)) t (classes-fill t) (kept-fill t) (cache-fill t) (ties-fill t) (subtypes-fill t) (objects-fill t b)
-      (report-fill t fs n u h) (numbers-fill t) (count-set 7 n (omega arith) (counts-fill t))
+      put-fills (closed (withFrames 1 fs (viewOver b t))) t (classes-fill t) (kept-fill t) (cache-fill t) (ties-fill t) (subtypes-fill t) (objects-fill t b)
+      (report-fill t fs n u h) (numbers-fill t) (trace-closed t) (count-set 7 n (omega arith) (counts-fill t))
   frames-writes (suc (suc k)) fs n u two h = absurd (omega arith)
 
   -- drop: one count
   pub drop-writes : (k : ℕ) → k < 2
-      → put (withFrames k [] (viewOver b t)) t
-      ≡ tables (set (t .counts) (6 + k) 0) (t .classes) (t .kept) (t .cache) (t .ties) (t .subtypes) (t .objects) (t .frames)
+      → put (closed (withFrames k [] (viewOver b t))) t
+      ≡ tables (set (set (t .counts) (6 + k) 0) loadsCell 0) (t .classes) (t .kept) (t .cache) (t .ties) (t .subtypes) (t .objects) (t .frames)
   unfolding writeStack
   drop-writes k two = frames-writes k [] 0 (t .frames) two (record { count = refl; cells = refl; apart = λ e. refl })
+
+  -- a load is remembered: the level before it, the latest
+  abbrev pub remembering : List ℕ → List ℕ
+  remembering c = putTrace (take traceLimit (levelOf (viewOver b t) ∷ traceOf t)) c
 
   -- record: one entry and one count
   pub entry-writes : (l n c : ℕ)
       → put (addEntry (viewOver b t) (withEntry (worldOf (viewOver b t)) (at l n) c)) t
-      ≡ tables (set (t .counts) 2 (countAt t 2 + 1)) (t .classes) (t .kept) (putThree (t .cache) (countAt t 2) l n c) (t .ties) (t .subtypes) (t .objects) (t .frames)
+      ≡ tables (remembering (set (t .counts) 2 (countAt t 2 + 1))) (t .classes) (t .kept) (putThree (t .cache) (countAt t 2) l n c) (t .ties) (t .subtypes) (t .objects) (t .frames)
   unfolding viewOver putEntry
   entry-writes l n c =
-      put-fills (addEntry (viewOver b t) (withEntry (worldOf (viewOver b t)) (at l n) c)) t (classes-fill t) (kept-fill t)
+      ap (λ (z : Rows). put z t) (entry-added (viewOver b t) (at l n) c)
+      ∙ put-fills (remembered (viewOver b t) (withCache (cacheOf t ++ (record { request = at l n; class = c } ∷ [])) (viewOver b t))) t (classes-fill t) (kept-fill t)
       (fill-last entry-rows (t .cache) (countAt t 2) (record { request = at l n; class = c })) (ties-fill t) (subtypes-fill t) (objects-fill t b)
-      (frames-fill t) (numbers-fill t) (count-set 2 (countAt t 2 + 1) (omega arith) (counts-fill t))
+      (frames-fill t) (numbers-fill t) (trace-put t _) (count-set 2 (countAt t 2 + 1) (omega arith) (counts-fill t))
 
   -- the numbers that posted rows get: subtype constraints first, then ties, n of them from k on
   abbrev pub subtypesNumbered : ℕ → List ℕ → List ℕ
@@ -69,11 +81,11 @@ module _ (b : Base) (t : Tables) where
   tiesNumbered k n c = writeRows (putNumber tieNumbersCell) (numbersFrom k n) (countAt t 3) c
 
   -- define: a class row, the file's bytes, an entry, ties, subtype constraints, their five counts, and the numbers of what it posted
-  pub class-writes : (l : ℕ) (bs : List ℕ) (k : Class) (us : List Tie) (ss : List Subtype) → countAt t 3 ≤ 256
+  pub class-writes : (l : ℕ) (bs : List ℕ) (k : Class) (us : List Tie) (ss : List Subtype) → countAt t 3 + length us ≤ 256 → countAt t 4 + length ss ≤ 256
       → put (addFile l bs (viewOver b t) (withClass (worldOf (viewOver b t)) k us ss)) t
       ≡ tables
-      (tiesNumbered (countAt t 3 + countAt t 4 + length ss) (length us) (subtypesNumbered (length ss)
-      (set (set (set (set (set (t .counts) 0 (countAt t 0 + 1)) 1 (countAt t 1 + length bs)) 2 (countAt t 2 + 1)) 3 (countAt t 3 + length us)) 4 (countAt t 4 + length ss))))
+      (remembering (tiesNumbered (countAt t 3 + countAt t 4 + length ss) (length us) (subtypesNumbered (length ss)
+      (set (set (set (set (set (t .counts) 0 (countAt t 0 + 1)) 1 (countAt t 1 + length bs)) 2 (countAt t 2 + 1)) 3 (countAt t 3 + length us)) 4 (countAt t 4 + length ss)))))
       (putThree (t .classes) (countAt t 0) l (countAt t 1) (length bs))
       (writeRows set bs (countAt t 1) (t .kept))
       (putThree (t .cache) (countAt t 2) (k .loader) (k .name) (countAt t 0))
@@ -82,67 +94,94 @@ module _ (b : Base) (t : Tables) where
       (t .objects)
       (t .frames)
   unfolding viewOver putEntry putClassRow
-  class-writes l bs k us ss room =
+  class-writes l bs k us ss room space =
       let n : length (keptOf t) ≡ countAt t 1 = kept-fill t .count in
       let m : length (map (classAt (keptOf t)) (classRowsOf t)) ≡ countAt t 0 = length-map (classRowsOf t) (classAt (keptOf t)) ∙ classes-fill t .count in
       put-fills (addFile l bs (viewOver b t) (withClass (worldOf (viewOver b t)) k us ss)) t
       (fill-last class-rows (t .classes) (countAt t 0) (record { loader = l; start = length (keptOf t); size = length bs }))
       (fill-more cell-rows (t .kept) (countAt t 1) bs)
       (fill-last entry-rows (t .cache) (countAt t 2) (record { request = at (k .loader) (k .name); class = length (map (classAt (keptOf t)) (classRowsOf t)) }))
-      (ties-more t us) (subtypes-more t ss) (objects-fill t b) (frames-fill t) numbers
+      (ties-more t us) (subtypes-more t ss) (objects-fill t b) (frames-fill t) numbers (trace-put t _)
       (count-set 4 (countAt t 4 + length ss) (omega arith) (count-set 3 (countAt t 3 + length us) (omega arith)
       (count-set 2 (countAt t 2 + 1) (omega arith) (count-set 1 (countAt t 1 + length bs) (omega arith) (count-set 0 (countAt t 0 + 1) (omega arith) (counts-fill t))))))
       ∙ rw (n, m)
     where
       numbers : FillsNumbers (numberedOn (tiesOf t ++ us) (subtypesOf t ++ ss) (viewOver b t)) (t .counts) (λ c. tiesNumbered (countAt t 3 + countAt t 4 + length ss) (length us) (subtypesNumbered (length ss) c))
-      numbers = rw (numbered-on (viewOver b t) us ss, ties-fill t .count, subtypes-fill t .count) (both-numbered t _ _ room)
+      numbers = rw (numbered-on (viewOver b t) us ss, ties-fill t .count, subtypes-fill t .count) (both-numbered t (numbersFrom (countAt t 3 + countAt t 4 + length ss) (length us)) (numbersFrom (countAt t 3 + countAt t 4) (length ss)) (omega (arith, rows-length (λ i. i) (length us) (countAt t 3 + countAt t 4 + length ss), room)) (omega (arith, rows-length (λ i. i) (length ss) (countAt t 3 + countAt t 4), space)))
 
   -- a task's progress: the ties that it posted, with their numbers, the objects and the task's frames that it leaves, their three counts and the owners
-  pub progress-writes : (k : ℕ) (p : Progress) (us : List Tie) (m n : ℕ) (w : List ℕ → List ℕ) (o u : List ℕ) → k < 2 → p .world .ties ≡ tiesOf t ++ us
+  pub progress-writes : (k : ℕ) (p : Progress) (us : List Tie) (m n : ℕ) (w : List ℕ → List ℕ) (o u : List ℕ) → k < 2 → countAt t 3 + length us ≤ 256 → p .world .ties ≡ tiesOf t ++ us
       → FillsObjects (p .objects) (t .counts) (t .objects) m w o → FillsTask k (p .frames) t n u
-      → put (progressed k (viewOver b t) p) t
-      ≡ tables (tiesNumbered (countAt t 3 + countAt t 4) (length us) (w (set (set (set (t .counts) 3 (countAt t 3 + length us)) 5 m) (6 + k) n))) (t .classes) (t .kept) (t .cache)
+      → put (closed (progressed k (viewOver b t) p)) t
+      ≡ tables (set (tiesNumbered (countAt t 3 + countAt t 4) (length us) (w (set (set (set (t .counts) 3 (countAt t 3 + length us)) 5 m) (6 + k) n))) loadsCell 0) (t .classes) (t .kept) (t .cache)
       (writeRows putTie us (countAt t 3) (t .ties)) (t .subtypes) o u
   unfolding viewOver
-  progress-writes k p us m n w o u two e g h = go k two h
+  progress-writes k p us m n w o u two room e g h = go k two h
     where
       posted : Fills putTie (p .world .ties) (t .ties) (countAt t 3 + length us) (writeRows putTie us (countAt t 3) (t .ties))
       posted = rw e (ties-more t us)
 
       numbers : FillsNumbers (numberedOn (p .world .ties) (subtypesOf t) (viewOver b t)) (t .counts) (tiesNumbered (countAt t 3 + countAt t 4) (length us))
-      numbers = rw (e, ties-numbered-on (viewOver b t) us, ties-fill t .count, subtypes-fill t .count) (ties-numbered t _)
+      numbers = rw (e, ties-numbered-on (viewOver b t) us, ties-fill t .count, subtypes-fill t .count) (ties-numbered t (numbersFrom (countAt t 3 + countAt t 4) (length us)) (omega (arith, rows-length (λ i. i) (length us) (countAt t 3 + countAt t 4), room)))
 
       counts : FillsCounts (set (set (countsOn t) 3 (countAt t 3 + length us)) 5 m) (t .counts) (set (set (t .counts) 3 (countAt t 3 + length us)) 5 m)
       counts = count-set 5 m (omega arith) (count-set 3 (countAt t 3 + length us) (omega arith) (counts-fill t))
 
       go : (k : ℕ) → k < 2 → FillsTask k (p .frames) t n u
-          → put (progressed k (viewOver b t) p) t
-          ≡ tables (tiesNumbered (countAt t 3 + countAt t 4) (length us) (w (set (set (set (t .counts) 3 (countAt t 3 + length us)) 5 m) (6 + k) n))) (t .classes) (t .kept) (t .cache)
+          → put (closed (progressed k (viewOver b t) p)) t
+          ≡ tables (set (tiesNumbered (countAt t 3 + countAt t 4) (length us) (w (set (set (set (t .counts) 3 (countAt t 3 + length us)) 5 m) (6 + k) n))) loadsCell 0) (t .classes) (t .kept) (t .cache)
           (writeRows putTie us (countAt t 3) (t .ties)) (t .subtypes) o u
       go zero two h =
-          put-fills (progressed 0 (viewOver b t) p) t (classes-fill t) (kept-fill t) (cache-fill t) posted (subtypes-fill t) g
-          (quote-fill t (p .frames) n u h) numbers (count-set 6 n (omega arith) counts)
+          put-fills (closed (progressed 0 (viewOver b t) p)) t (classes-fill t) (kept-fill t) (cache-fill t) posted (subtypes-fill t) g
+          (quote-fill t (p .frames) n u h) numbers (trace-closed t) (count-set 6 n (omega arith) counts)
       go (suc zero) two h =
-          put-fills (progressed 1 (viewOver b t) p) t (classes-fill t) (kept-fill t) (cache-fill t) posted (subtypes-fill t) g
-          (report-fill t (p .frames) n u h) numbers (count-set 7 n (omega arith) counts)
+          put-fills (closed (progressed 1 (viewOver b t) p)) t (classes-fill t) (kept-fill t) (cache-fill t) posted (subtypes-fill t) g
+          (report-fill t (p .frames) n u h) numbers (trace-closed t) (count-set 7 n (omega arith) counts)
       go (suc (suc k)) two h = absurd (omega arith)
 
   -- the same where it posted no tie
-  pub quiet-writes : (k : ℕ) (p : Progress) (m n : ℕ) (w : List ℕ → List ℕ) (o u : List ℕ) → k < 2 → p .world .ties ≡ tiesOf t
+  pub quiet-writes : (k : ℕ) (p : Progress) (m n : ℕ) (w : List ℕ → List ℕ) (o u : List ℕ) → k < 2 → countAt t 3 ≤ 256 → p .world .ties ≡ tiesOf t
       → FillsObjects (p .objects) (t .counts) (t .objects) m w o → FillsTask k (p .frames) t n u
-      → put (progressed k (viewOver b t) p) t ≡ tables (w (set (set (t .counts) 5 m) (6 + k) n)) (t .classes) (t .kept) (t .cache) (t .ties) (t .subtypes) o u
+      → put (closed (progressed k (viewOver b t) p)) t ≡ tables (set (w (set (set (t .counts) 5 m) (6 + k) n)) loadsCell 0) (t .classes) (t .kept) (t .cache) (t .ties) (t .subtypes) o u
   unfolding writeRows rows
-  quiet-writes k p m n w o u two e g h =
+  quiet-writes k p m n w o u two room e g h =
       let z : countAt t 3 + 0 ≡ countAt t 3 = omega arith in
-      progress-writes k p [] m n w o u two (e ∙ sym (append-nil (tiesOf t))) g h ∙ rw (z, set-getD (t .counts) 3 0)
+      progress-writes k p [] m n w o u two (omega arith) (e ∙ sym (append-nil (tiesOf t))) g h ∙ rw (z, set-getD (t .counts) 3 0)
 
   -- sweep: owners
-  pub sweep-writes : (R : List ℕ) → countAt t 5 ≤ 256 → put (withObjects (sweptFrom R 0 (objectsOf b t)) (viewOver b t)) t
-      ≡ tables (writeRows putOwner (sweptFrom R 0 (objectsOf b t)) 0 (t .counts)) (t .classes) (t .kept) (t .cache) (t .ties) (t .subtypes) (t .objects) (t .frames)
+  pub sweep-writes : (R : List ℕ) → countAt t 5 ≤ 256 → put (closed (withObjects (sweptFrom R 0 (objectsOf b t)) (viewOver b t))) t
+      ≡ tables (set (writeRows putOwner (sweptFrom R 0 (objectsOf b t)) 0 (t .counts)) loadsCell 0) (t .classes) (t .kept) (t .cache) (t .ties) (t .subtypes) (t .objects) (t .frames)
   unfolding viewOver
   sweep-writes R room =
-      put-fills (withObjects (sweptFrom R 0 (objectsOf b t)) (viewOver b t)) t (classes-fill t) (kept-fill t) (cache-fill t) (ties-fill t) (subtypes-fill t)
-      (objects-swept t b R room) (frames-fill t) (numbers-fill t) (counts-fill t)
+      put-fills (closed (withObjects (sweptFrom R 0 (objectsOf b t)) (viewOver b t))) t (classes-fill t) (kept-fill t) (cache-fill t) (ties-fill t) (subtypes-fill t)
+      (objects-swept t b R room) (frames-fill t) (numbers-fill t) (trace-closed t) (counts-fill t)
+
+-- taking back: where no count of the level is above the tables', the five counts and that of loads
+first-rows : {A : Type 0} (g : ℕ → A) (n m : ℕ) → n ≤ m → take n (rows g m 0) ≡ rows g n 0
+first-rows g n m l = let z : 0 + 0 ≡ 0 = omega arith in rw z at (rows-part g m 0 n 0 (omega arith))
+
+pub back-writes : (b : Base) (t : Tables) (n : ℕ) (l : Level) → l .classes ≤ countAt t 0 → l .kept ≤ countAt t 1 → l .cache ≤ countAt t 2 → l .ties ≤ countAt t 3 → l .subtypes ≤ countAt t 4
+    → countAt t 3 ≤ 256 → put (withTrace (stack (levelAt (t .counts)) n) (cutTo l (viewOver b t))) t
+    ≡ tables (set (set (set (set (set (set (t .counts) 0 (l .classes)) 1 (l .kept)) 2 (l .cache)) 3 (l .ties)) 4 (l .subtypes)) loadsCell n)
+    (t .classes) (t .kept) (t .cache) (t .ties) (t .subtypes) (t .objects) (t .frames)
+unfolding viewOver cutTo
+back-writes b t n l a0 a1 a2 a3 a4 room =
+    put-fills (withTrace (stack (levelAt (t .counts)) n) (cutTo l (viewOver b t))) t
+    (rw (first-rows (classRowAt (t .classes)) (l .classes) (countAt t 0) a0) (fill-kept class-rows (t .classes) (l .classes)))
+    (rw (first-rows (λ i. getD (t .kept) i 0) (l .kept) (countAt t 1) a1) (fill-kept cell-rows (t .kept) (l .kept)))
+    (rw (first-rows (entryAt (t .cache)) (l .cache) (countAt t 2) a2) (fill-kept entry-rows (t .cache) (l .cache)))
+    (rw (first-rows (tieAt (t .ties)) (l .ties) (countAt t 3) a3) (fill-kept tie-rows (t .ties) (l .ties)))
+    (rw (first-rows (subtypeAt (t .subtypes)) (l .subtypes) (countAt t 4) a4) (fill-kept subtype-rows (t .subtypes) (l .subtypes)))
+    (objects-fill t b) (frames-fill t)
+    numbers (trace-first t n)
+    (count-set 4 (l .subtypes) (omega arith) (count-set 3 (l .ties) (omega arith) (count-set 2 (l .cache) (omega arith)
+    (count-set 1 (l .kept) (omega arith) (count-set 0 (l .classes) (omega arith) (counts-fill t))))))
+  where
+    numbers : FillsNumbers (rowNumbers (take (l .ties) (rows (numberAt tieNumbersCell (t .counts)) (countAt t 3) 0)) (take (l .subtypes) (rows (numberAt subtypeNumbersCell (t .counts)) (countAt t 4) 0)))
+        (t .counts) (λ d. d)
+    numbers =
+        rw (first-rows (numberAt tieNumbersCell (t .counts)) (l .ties) (countAt t 3) a3, first-rows (numberAt subtypeNumbersCell (t .counts)) (l .subtypes) (countAt t 4) a4)
+        (numbers-first t (l .ties) (l .subtypes) (omega arith))
 
 -- What a task's frames write
 

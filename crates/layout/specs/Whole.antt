@@ -85,6 +85,7 @@ pub record Limits (r : Rows) : Type 0 where
   pub objects : length (r .objects) ≤ 256
   pub quote : length (r .quote) ≤ 32
   pub report : length (r .report) ≤ 32
+  pub trace : length (r .trace) ≤ 32
 
 -- numbers in turn of t ties and s subtype constraints; what the numbers are stands in InTurn
 pub record Numbered (t s : ℕ) (n : RowNumbers) : Type 0 where

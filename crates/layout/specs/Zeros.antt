@@ -10,6 +10,7 @@ use Rattle.definition.specs.Machine.{madeBy}
 use Rattle.definition.specs.Tables.{noRows, objectsOf, framesOf, viewOver, view, zeros}
 use Rattle.definition.specs.Broken.{inTurn, numbered, broken}
 use Rattle.layout.specs.Whole.{Whole}
+use Rattle.layout.specs.Traced.{Traced}
 use Rattle.layout.specs.ReadBack.{Lengths}
 use Rattle.layout.specs.Unbroken.{false-broken}
 
@@ -42,6 +43,7 @@ none-whole = record {
     objects = omega arith;
     quote = omega arith;
     report = omega arith;
+    trace = omega arith;
   };
   classes = tt;
   cache = tt;
@@ -55,4 +57,4 @@ none-whole = record {
 }
 
 pub zeros-whole : broken zeros ≡ false
-zeros-whole = false-broken zeros zeros-lengths (subst Whole (sym zeros-view) none-whole)
+zeros-whole = false-broken zeros zeros-lengths (subst Whole (sym zeros-view) none-whole) (subst Traced (sym zeros-view) tt)

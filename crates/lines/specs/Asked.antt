@@ -8,7 +8,7 @@ use lib.ListN.{length, take, drop, set}
 use lib.Seq.{take-append-seam}
 use Rattle.definition.specs.Lists.{writeRows}
 use Rattle.definition.specs.Calls as defs
-use Rattle.definition.specs.Calls.{rowDefine, rowRecord, rowStart, rowDrop, rowSweep, rowTry, callBoot, callRows, callDefine, callStep, callRun}
+use Rattle.definition.specs.Calls.{rowDefine, rowRecord, rowStart, rowDrop, rowSweep, rowTry, rowTakeBack, callBoot, callRows, callDefine, callStep, callRun}
 use Rattle.definition.specs.Script.{Line, readLine}
 use Rattle.layout.specs.Cells.{cells-block}
 use Rattle.script.specs.declared.Command.{Command}
@@ -62,6 +62,7 @@ call-heard l before after a h e k = step (l .call) a e
     step (callRun n) a e = absurd a
     step (callRows (rowDrop j)) a e = (omega arith, refl)
     step (callRows rowSweep) a e = absurd a
+    step (callRows rowTakeBack) a e = absurd a
     step (callRows (rowTry c m)) a e = absurd a
 
 pub heard : (s : List ℕ) (r : Command) (before after : List ℕ) → Read (readLine s) r before after → 32768 ≤ length before → length after ≡ length before

@@ -1,10 +1,10 @@
-// Ties that a step posts between two loaders: which are new, how many, their rows, and that a refusal posts none.
+// Ties posted between two loaders, by a step or for an override: which are new, how many, their rows, and that a refusal posts none.
 use cells::arguments::argument_at;
 use cells::arguments::argument_count;
 ghost use mathlib.Core.Path.{_≡_};
 ghost use mathlib.Core.Logic.{_≢_};
 ghost use mathlib.Core.List.{[], _∷_, _++_};
-ghost use Prim.Native.Nat.{_<_};
+ghost use Prim.Native.Nat.{_+_, _<_};
 ghost use lib.ListN.{length};
 ghost use Rattle.definition.specs.Lists.{any, rows, writeRows};
 ghost use Rattle.definition.specs.Classes.{typesOf};
@@ -147,6 +147,17 @@ pub fn write_ties(ties: &mut [u16], n: u16, posting: Posting)
             write_names(ties, n, one, two, names, last);
         }
     }
+}
+
+// Ties between two loaders on each of those names in turn, and then on the last, written behind the first rows of a table: those that are not known yet.
+// Answers how many rows there then are.
+pub fn post(ties: &mut [u16], count: u16, one: u8, two: u8, names: Arguments, last: u16) -> u32
+    ensures counted { λ r. ⌜ r ≡ count + length (newTies (rows (tieAt (now (ties .entry))) count 0) one two (typesOf names ++ (last ∷ []))) ⌝ }
+    ensures written { λ _. ⌜ now (ties .exit) ≡ writeRows putTie (newTies (rows (tieAt (now (ties .entry))) count 0) one two (typesOf names ++ (last ∷ []))) count (now (ties .entry)) ⌝ }
+{
+    let posting = new_ties(ties, count, one, two, names, last);
+    write_ties(ties, count, posting);
+    cells::from16(count) + cells::from16(tie_number(posting))
 }
 
 // What is posted with a plan: nothing with a refusal.

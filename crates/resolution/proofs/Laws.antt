@@ -1,4 +1,4 @@
--- Laws that the proofs of the lookups share: one turn of a scan of the cache, of a walk upward, and of a loop that writes.
+-- Laws that the proofs of the lookups share: a request compared, one turn of a walk upward, and of a loop that writes.
 use mathlib.Core.Path.{_≡_, refl, ap, _∙_}
 use mathlib.Core.Bool.{true, false}
 use mathlib.Core.Option.{Option, none, some}
@@ -11,11 +11,11 @@ use lib.Dec.{eqb}
 use borrow.Author.Tests.{eq-eqb, ne-eqb}
 use Rattle.definition.specs.Lists.{rows, writeRows}
 use Rattle.definition.specs.Requests.{Request, at, sameRequest}
-use Rattle.definition.specs.Classes.{Base, Entry, Field, find, superOf, ownSlots, slots}
+use Rattle.definition.specs.Classes.{Base, Field, superOf, ownSlots, slots}
 use Rattle.definition.specs.Superclasses.{Falls, below}
 use Rattle.laws.specs.Slots.{slots-up, slots-none}
 use Rattle.laws.specs.Upward.{nearest-here, nearest-up, nearest-none}
-use Rattle.layout.specs.Places.{rows-length, rows-step, rows-none, rows-last}
+use Rattle.layout.specs.Places.{rows-length, rows-last}
 use Rattle.classfile.specs.Reading.{fieldCount, quickFields}
 use Rattle.classfile.specs.Searches.{slotOf}
 use Rattle.resolution.specs.Quick.{quickBase, fileIn, own-quick}
@@ -30,21 +30,6 @@ same-loader a l n e = rw (eq-eqb (a .loader) l e, sameRequest)
 pub other-loader : (a : Request) (l n : ℕ) → (a .loader ≡ l → ⊥) → sameRequest a (at l n) ≡ false
 unfolding sameRequest
 other-loader a l n e = rw (ne-eqb (a .loader) l e, sameRequest)
-
--- The cache from row i on, of n rows: row i has the request, has it not, or there is none
-
-module _ (g : ℕ → Entry) (r : Request) (n i : ℕ) where
-  pub cached-here : i < n → sameRequest (g i .request) r ≡ true → find (rows g (n - i) i) r ≡ some (g i .class)
-  unfolding find
-  cached-here h e = rw (rows-step g n i h, e, find)
-
-  pub cached-later : i < n → sameRequest (g i .request) r ≡ false → find (rows g (n - i) i) r ≡ find (rows g (n - (i + 1)) (i + 1)) r
-  unfolding find
-  cached-later h e = ap (λ (es : List Entry). find es r) (rows-step g n i h) ∙ rw (e, find)
-
-  pub cached-nowhere : n ≤ i → find (rows g (n - i) i) r ≡ none
-  unfolding find
-  cached-nowhere h = rw (rows-none g n i h)
 
 -- Upward from a class: it is the one, its superclass is next, or there is none
 

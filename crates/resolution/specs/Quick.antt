@@ -12,13 +12,14 @@ use borrow.Author.Tests.{lt-ltb, le-ltb, ltb-true, ltb-false}
 use Rattle.definition.specs.Lists.{any, isSome, rows}
 use Rattle.definition.specs.Requests.{at}
 use Rattle.definition.specs.Instructions.{pick}
-use Rattle.definition.specs.Classes.{Base, Class, slotIs, find, lower, superOf, loaderOf, ownSlots, hasField, methodsOf}
+use Rattle.definition.specs.Classes.{Base, Class, slotIs, superOf, loaderOf, ownSlots, hasField, methodsOf}
 use Rattle.definition.specs.Tables.{Tables, ClassRow, classRowAt, entryAt}
 use Rattle.laws.specs.Stable.{loader-is}
-use Rattle.layout.specs.Places.{rows-at, rows-past}
+use Rattle.layout.specs.Places.{rows-length, rows-at, rows-past}
 use Rattle.classfile.specs.Lists.{any-index}
 use Rattle.classfile.specs.Reading.{fileVersion, className, superName, quickFields, quickMethods, fieldIs, fieldCount, methodCount, partOf}
 use Rattle.classfile.specs.Searches.{slotOf, own-index, own-slots, own-methods}
+use Rattle.resolution.specs.Cached.{rowOf, superRow}
 use Rattle.resolution.specs.declared.Found.{Found}
 use Rattle.resolution.specs.declared.Found.the-variants.{At, Absent}
 
@@ -112,26 +113,15 @@ module _ (counts classes kept cache : List ℕ) where
   unfolding quickBase
   class-past c h = rows-past (λ c. quickClass kept (row c)) (getD counts 0 0) 0 c h
 
-  -- The superclass of a class that is there, by what is found under its loader l and its superclass's name n
+  -- The row by which a class finds its superclass: of a class that is there, under its loader l and its superclass's name n
 
-  module _ (c : ℕ) (h : c < getD counts 0 0) (l n : ℕ) (loader : l ≡ row c .loader) (name : n ≡ superName (file c)) where
-    abbrev cached : Option ℕ
-    cached = find (rows (entryAt cache) (getD counts 2 0) 0) (at l n)
+  pub row-there : (c : ℕ) → c < getD counts 0 0 → (l n : ℕ) → l ≡ row c .loader → n ≡ superName (file c) → superRow b c ≡ rowOf (rows (entryAt cache) (getD counts 2 0) 0) (at l n)
+  unfolding superRow quickClass quickBase
+  row-there c h l n loader name = rw (loader, name, file-there counts classes kept c h) (rw (class-there c h, superRow))
 
-    super-unfolded : superOf b c ≡ (elim cached as (λ _. Option ℕ) [ none ↦ none | some p ↦ lower c p ])
-    unfolding superOf quickClass quickBase
-    super-unfolded = rw (loader, name, file-there counts classes kept c h) (rw (class-there c h, superOf))
-
-    pub super-uncached : cached ≡ none → superOf b c ≡ none
-    super-uncached e = super-unfolded ∙ rw e
-
-    pub super-lower : (p : ℕ) → cached ≡ some p → p < c → superOf b c ≡ some p
-    unfolding lower
-    super-lower p e i = super-unfolded ∙ rw (e, lt-ltb p c i, lower)
-
-    pub super-higher : (p : ℕ) → cached ≡ some p → c ≤ p → superOf b c ≡ none
-    unfolding lower
-    super-higher p e i = super-unfolded ∙ rw (e, le-ltb p c i, lower)
+  pub row-past : (c : ℕ) → getD counts 0 0 ≤ c → superRow b c ≡ getD counts 2 0
+  unfolding superRow quickBase
+  row-past c h = rw (class-past c h, superRow) (rows-length (entryAt cache) (getD counts 2 0) 0)
 
   pub super-past : (c : ℕ) → getD counts 0 0 ≤ c → superOf b c ≡ none
   unfolding superOf

@@ -1,7 +1,9 @@
 // Classes by their number: loader, file, version, name, superclass.
 use crate::Found;
-use crate::cache::find;
+use crate::cache::class_in;
+use crate::cache::row_of;
 use definition::numbers::CLASS_LIMIT;
+use definition::numbers::COUNT_CACHE;
 use definition::numbers::COUNT_CLASSES;
 use definition::numbers::NAME_OBJECT;
 use definition::numbers::ROW_CELLS;
@@ -9,11 +11,13 @@ ghost use mathlib.Core.Path.{_≡_};
 ghost use Prim.Native.Nat.{_+_, _*_};
 ghost use lib.ListN.{getD, set};
 ghost use lib.Dec.{ltb};
-ghost use Rattle.definition.specs.Numbers.{classLimit, countClasses, rowCells};
+ghost use Rattle.definition.specs.Numbers.{classLimit, countCache, countClasses, rowCells};
 ghost use Rattle.definition.specs.Lists.{rows, writeRows};
 ghost use Rattle.definition.specs.Superclasses.{below};
 ghost use Rattle.definition.specs.Classes.{superOf};
+ghost use Rattle.definition.specs.Tables.{entryAt};
 ghost use Rattle.resolution.specs.Quick.{found, quickBase, fileIn, loaderIn};
+ghost use Rattle.resolution.specs.Cached.{superRow, superBy};
 ghost use Rattle.resolution.specs.Lookups.{nameIn, superCell};
 
 // How many classes there are at most.
@@ -68,18 +72,32 @@ pub fn name_of(counts: &[u16], classes: &[u16], kept: &[u8], c: u32) -> u16
     classfile::class_name(file_of(counts, classes, kept, c))
 }
 
-// The direct superclass, looked up under the class's own loader; its number is lower, or there is none.
-pub fn super_of(counts: &[u16], classes: &[u16], kept: &[u8], cache: &[u16], c: u32) -> Found
-    ensures { λ r. ⌜ r ≡ found (superOf (quickBase (now (counts .entry)) (now (classes .entry)) (now (kept .entry)) (now (cache .entry))) c) ⌝ }
+// The row of the entry by which a class finds its direct superclass, looked up under the class's own loader; as many as there are rows, if there is none.
+pub fn super_row(counts: &[u16], classes: &[u16], kept: &[u8], cache: &[u16], c: u32) -> u16
+    ensures { λ r. ⌜ r ≡ superRow (quickBase (now (counts .entry)) (now (classes .entry)) (now (kept .entry)) (now (cache .entry))) c ⌝ }
 {
     if !is_class(counts, c) {
-        return Found::Absent;
+        return cells::at16(counts, COUNT_CACHE);
     }
     let name = classfile::super_name(file_of(counts, classes, kept, c));
-    let Found::At(p) = find(counts, cache, row_cell(classes, c, 0), name) else {
+    row_of(counts, cache, row_cell(classes, c, 0), name)
+}
+
+// The direct superclass of class c by the row of its entry; its number is lower, or there is none.
+pub fn super_by(counts: &[u16], cache: &[u16], c: u32, row: u16) -> Found
+    ensures { λ r. ⌜ r ≡ found (superBy (rows (entryAt (now (cache .entry))) (getD (now (counts .entry)) countCache 0) 0) c row) ⌝ }
+{
+    let Found::At(p) = class_in(counts, cache, row) else {
         return Found::Absent;
     };
     if p < c { Found::At(p) } else { Found::Absent }
+}
+
+// The direct superclass.
+pub fn super_of(counts: &[u16], classes: &[u16], kept: &[u8], cache: &[u16], c: u32) -> Found
+    ensures { λ r. ⌜ r ≡ found (superOf (quickBase (now (counts .entry)) (now (classes .entry)) (now (kept .entry)) (now (cache .entry))) c) ⌝ }
+{
+    super_by(counts, cache, c, super_row(counts, classes, kept, cache, c))
 }
 
 // Whether class c is class d or below it.

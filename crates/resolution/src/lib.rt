@@ -1,6 +1,6 @@
 // Lookups on the tables: the class that a request is cached as, what lies upward of a class, its fields and its methods. Each is total and
 // reads classes off the kept files without checking them, over `quickBase`, which on a store that isn't broken is the definition's.
-mod cache; // cache.rt: the class that a request is cached as
+mod cache; // cache.rt: the row in which a request stands, and the class that it is cached as
 mod classes; // classes.rt: classes by their number: loader, file, version, name, superclass
 mod fields; // fields.rt: fields upward of a class, and the fields of its objects
 mod methods; // methods.rt: methods upward of a class, and their code
@@ -12,7 +12,9 @@ pub use classes::is_below;
 pub use classes::is_class;
 pub use classes::loader_of;
 pub use classes::name_of;
+pub use classes::super_by;
 pub use classes::super_of;
+pub use classes::super_row;
 pub use fields::inherited;
 pub use fields::nearest_field;
 pub use fields::size_of;

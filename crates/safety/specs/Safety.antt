@@ -3,6 +3,7 @@ use mathlib.Core.Path.{_≡_, refl, sym, ap, _∙_, subst}
 use mathlib.Core.Bool.{Bool, true, false, false≢true, _&&_}
 use mathlib.Core.Option.{Option, none, some, Option·none-ne-some, Option·some-injective}
 use mathlib.Core.List.{List, [], _∷_, _++_}
+use mathlib.Core.Logic.{_⊎_}
 use Prim.Native.Nat.{ℕ, zero, suc, _≤_, _<_}
 use native.Mathlib.Omega.{arith}
 use lib.ListN.{length, getElem?}
@@ -20,9 +21,9 @@ use Rattle.definition.specs.File.{classOf}
 use Rattle.definition.specs.Classes.{Class, Map, Method}
 use Rattle.definition.specs.Verifier.{Note, notesOfMethod, typesIn, mapAt, mapTypes}
 use Rattle.definition.specs.Machine.{Exists, Frame, Progress}
-use Rattle.definition.specs.Tables.{Tables, shaped, Rows, worldOf, view, put, framesIn, withFrames}
+use Rattle.definition.specs.Tables.{Tables, shaped, Level, Rows, worldOf, view, put, framesIn, withFrames}
 use Rattle.definition.specs.Broken.{broken}
-use Rattle.definition.specs.Calls.{Given, bootRows, progressed, defineRows, recordRows, startRows, dropRows, sweepRows, answerOf, stepTask, stepOn, stepRows, Done, done, wrap, boot, stepTables, runFrom, run, Call, callBoot, callStep, callRun, perform, performAll, ComesFromBoot, RowCall, rowDefine, rowRecord, rowStart, rowDrop, rowSweep, rowTry, Load, loadDefine, loadRecord, loadRows, tryRows, onRowCall, callRows, afterBoot, afterCall}
+use Rattle.definition.specs.Calls.{Given, bootRows, progressed, defineRows, recordRows, startRows, dropRows, sweepRows, takenBack, answerOf, stepTask, stepOn, stepRows, Done, done, wrap, boot, stepTables, runFrom, run, Call, callBoot, callStep, callRun, perform, performAll, ComesFromBoot, RowCall, rowDefine, rowRecord, rowStart, rowDrop, rowSweep, rowTry, rowTakeBack, Load, loadDefine, loadRecord, loadRows, tryRows, onRowCall, callRows, afterBoot, afterCall}
 use Rattle.definition.specs.Misplaced.{misplaced}
 use Rattle.definition.specs.Safety.{Safe}
 use Rattle.laws.specs.Results.{NotStuck, Wp, not-word, ok-inj, wp-need, wp-take}
@@ -33,11 +34,14 @@ use Rattle.laws.specs.Walk.{mapped-types}
 use Rattle.laws.specs.Wrapped.{wrapped, Ok, ok-at}
 use Rattle.layout.specs.Tests.{All}
 use Rattle.layout.specs.Whole.{Whole, Framed}
+use Rattle.layout.specs.Traced.{Traced, Back, Traceless}
 use Rattle.layout.specs.Unbroken.{true-whole, broken-false}
 use Rattle.layout.specs.ReadBack.{Lengths, shaped-true, true-shaped, view-put, object-class}
 use Rattle.unbroken.specs.Steps.{step-moves}
 use Rattle.unbroken.specs.OnRows.{accepted-shaped}
-use Rattle.unbroken.specs.Calls.{world-recorded, world-defined, step-whole, rows-whole, boot-whole}
+use Rattle.unbroken.specs.Calls.{world-recorded, world-defined, step-whole, rows-whole, boot-whole, boot-traced}
+use Rattle.unbroken.specs.Unbroken.{Unhurt, Keeps}
+use Rattle.unbroken.specs.Traces.{TraceBy, rows-trace, step-trace, back-kept, back-stepped}
 use Rattle.unbroken.specs.WholeRows.{ready, start-moves, world-progressed}
 use Rattle.safety.specs.Store.{Store, storeOf, booted}
 use Rattle.safety.specs.Valid.{Stack}
@@ -77,6 +81,13 @@ Good r = Valid (storeOf r)
 -- a store with other classes, cache and constraints
 abbrev in-world : Store → World → Store
 in-world s w = record { world = w; objects = s .objects; quote = s .quote; report = s .report }
+
+-- what a taking back leaves was left by calls before the load that it undoes, so each turn leaves valid rows
+abbrev GoodBack : Rows → Type 0
+GoodBack r = Back Good (r .trace) r
+
+good-traceless : Traceless Good
+good-traceless r x v = v
 
 module _ (r : Rows) (w : Whole r) (v : Good r) where
   abbrev S : Store
@@ -156,13 +167,19 @@ module _ (r : Rows) (w : Whole r) (v : Good r) where
       go (refused x) h = h
       go (ok g) h = (v, h .1)
 
-  rows-good : (c : RowCall) → Wp (onRowCall c r) Q
-  rows-good (rowDefine l bs) = define-good l bs
-  rows-good (rowRecord l n c) = record-good l n c
-  rows-good (rowStart k l n m x) = start-good k l n m x
-  rows-good (rowDrop k) = drop-good k
-  rows-good rowSweep = sweep-good
-  rows-good (rowTry c n) = try-good c n
+  back-good : (ls : List Level) → Back Good ls r → Wp (takenBack ls r) Q
+  unfolding takenBack numberOf endsIn
+  back-good [] b = not-word 19 (omega arith)
+  back-good (l ∷ ls) b = (b .0, (zero-fine, zero-fine))
+
+  rows-good : (c : RowCall) → GoodBack r → Wp (onRowCall c r) Q
+  rows-good (rowDefine l bs) b = define-good l bs
+  rows-good (rowRecord l n c) b = record-good l n c
+  rows-good (rowStart k l n m x) b = start-good k l n m x
+  rows-good (rowDrop k) b = drop-good k
+  rows-good rowSweep b = sweep-good
+  rows-good (rowTry c n) b = try-good c n
+  rows-good rowTakeBack b = back-good (r .trace) b
 
 boot-good : Good bootRows
 boot-good = subst Valid (sym same) valid-booted
@@ -180,9 +197,10 @@ boot-good = subst Valid (sym same) valid-booted
 record Sane (t : Tables) : Type 0 where
   unbroken : broken t ≡ false
   valid : Good (view t)
+  back : GoodBack (view t)
 
-put-sane : (r : Rows) (t : Tables) → Lengths t → Whole r → Good r → Sane (put r t)
-put-sane r t l w v = record { unbroken = true-whole r t l w; valid = subst Good (sym (view-put r t l w)) v }
+put-sane : (r : Rows) (t : Tables) → Lengths t → Whole r → Traced r → Good r → GoodBack r → Sane (put r t)
+put-sane r t l w b v k = record { unbroken = true-whole r t l w b; valid = subst Good (sym (view-put r t l w)) v; back = subst GoodBack (sym (view-put r t l w)) k }
 
 wp-at : {A : Type 0} (Q : A → Type 0) (o : Result A) → Wp o Q → (a : A) → o ≡ ok a → Q a
 wp-at Q (refused w) h a e = absurd (let z : _≡_ {A = ℕ} 0 1 = cc in omega arith)
@@ -193,13 +211,29 @@ wp-refused Q (refused x) h w e = let z : x ≡ w = cc in rw z at h
 wp-refused Q (ok b) h w e = absurd (let z : _≡_ {A = ℕ} 0 1 = cc in omega arith)
 
 wrap-sane : {A : Type 0} (deny : Refusal → A) (F : A → Type 0) (f : Rows → Result (Given A)) (t : Tables) → Sane t → ((w : Refusal) → NotStuck w → F (deny w))
-    → ((r : Rows) → Whole r → Ok (f r) (λ g. Whole (g .rows))) → ((r : Rows) → Whole r → Good r → Wp (f r) (λ g. Good (g .rows) × F (g .answer))) → F (wrap deny f t .answer) × Sane (wrap deny f t .tables)
-wrap-sane deny F f t s n k j =
+    → Keeps f → ((r : Rows) → Whole r → Good r → GoodBack r → Wp (f r) (λ g. Good (g .rows) × F (g .answer)))
+    → ((r : Rows) → Whole r → Good r → GoodBack r → Ok (f r) (λ g. GoodBack (g .rows))) → F (wrap deny f t .answer) × Sane (wrap deny f t .tables)
+wrap-sane deny F f t s n k j m =
     let u = broken-false t (s .unbroken) in
-    let h = j (view t) (u .1) (s .valid) in
+    let h = j (view t) (u .1) (s .valid) (s .back) in
     wrapped deny f t (λ a z. F a × Sane z) (λ e. absurd (false≢true (sym (s .unbroken) ∙ e)))
     (λ w e. (n w (wp-refused (λ g. Good (g .rows) × F (g .answer)) _ h w e), s))
-    (λ _ g e. let x = wp-at (λ g. Good (g .rows) × F (g .answer)) _ h g e in (x .1, put-sane (g .rows) t (u .0) (ok-at (λ g. Whole (g .rows)) _ (k (view t) (u .1)) g e) (x .0)))
+    (λ _ g e.
+    let x = wp-at (λ g. Good (g .rows) × F (g .answer)) _ h g e in
+    let y = ok-at Unhurt _ (k (view t) (u .1) (u .2)) g e in
+    (x .1, put-sane (g .rows) t (u .0) (y .0) (y .1) (x .0) (ok-at (λ g. GoodBack (g .rows)) _ (m (view t) (u .1) (s .valid) (s .back)) g e)))
+
+ok-map : {A : Type 0} (P Q : A → Type 0) (o : Result A) → ((a : A) → P a → Q a) → Ok o P → Ok o Q
+ok-map P Q (refused x) f p = tt
+ok-map P Q (ok a) f p = f a p
+
+rows-back : (c : RowCall) (r : Rows) → Whole r → Good r → GoodBack r → Ok (onRowCall c r) (λ g. GoodBack (g .rows))
+rows-back c r w v b =
+    ok-map (λ (g : Given Reply). TraceBy c r (g .rows)) (λ g. GoodBack (g .rows)) (onRowCall c r) (λ g t. back-kept Good good-traceless c r (g .rows) t v b) (rows-trace r (w .numbers) c)
+
+step-back : (r : Rows) → Whole r → Good r → GoodBack r → Ok (stepRows r) (λ g. GoodBack (g .rows))
+step-back r w v b =
+    ok-map (λ (g : Given Answer). (g .rows ≡ r) ⊎ (g .rows .trace ≡ [])) (λ g. GoodBack (g .rows)) (stepRows r) (λ g t. back-stepped Good good-traceless r (g .rows) t b) (step-trace r)
 
 refused-fine : (w : Refusal) → NotStuck w → FineStep (Refused w)
 unfolding numberOfStep
@@ -211,7 +245,7 @@ denied-fine w h = (not-fourteen w h, zero-fine)
 
 step-sane : (t : Tables) → Sane t → FineStep (stepTables t .answer) × Sane (stepTables t .tables)
 unfolding stepTables
-step-sane t s = wrap-sane Refused FineStep stepRows t s refused-fine step-whole step-good
+step-sane t s = wrap-sane Refused FineStep stepRows t s refused-fine step-whole (λ r w v _. step-good r w v) step-back
 
 runs-sane : (n : ℕ) (t : Tables) → Sane t → Fine (runFrom stepTables n 0 Idle t .answer) × Sane (runFrom stepTables n 0 Idle t .tables)
 unfolding numberOf endsIn numberOfStep
@@ -232,12 +266,12 @@ run-sane n t s = rw (s .unbroken, run) (go (leb 1 n && leb n 65535))
 
 boot-sane : (t : Tables) → shaped t ≡ true → Fine (boot t .answer) × Sane (boot t .tables)
 unfolding boot
-boot-sane t h = rw (h, boot) ((unfold numberOf endsIn in (zero-fine, zero-fine)), put-sane bootRows t (shaped-true t h) boot-whole boot-good)
+boot-sane t h = rw (h, boot) ((unfold numberOf endsIn in (zero-fine, zero-fine)), put-sane bootRows t (shaped-true t h) boot-whole boot-traced boot-good tt)
 
 perform-sane : (c : Call) (t : Tables) → Sane t → Fine (perform c t .answer) × Sane (perform c t .tables)
 unfolding perform
 perform-sane callBoot t s = boot-sane t (true-shaped t (broken-false t (s .unbroken) .0))
-perform-sane (callRows c) t s = wrap-sane Denied Fine (onRowCall c) t s denied-fine (λ r w. rows-whole r w c) (λ r w v. rows-good r w v c)
+perform-sane (callRows c) t s = wrap-sane Denied Fine (onRowCall c) t s denied-fine (λ r w. rows-whole r w c) (λ r w v b. rows-good r w v c b) (rows-back c)
 perform-sane callStep t s = let d = step-sane t s in unfold numberOf endsIn in ((d .0, zero-fine), d .1)
 perform-sane (callRun n) t s = run-sane n t s
 

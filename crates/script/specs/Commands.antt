@@ -5,7 +5,7 @@ use mathlib.Core.List.{List}
 use Prim.Native.Nat.{ℕ}
 use lib.ListN.{length, set}
 use Rattle.definition.specs.Lists.{writeRows}
-use Rattle.definition.specs.Calls.{rowDefine, rowRecord, rowStart, rowDrop, rowSweep, rowTry, Call, callBoot, callRows, callStep, callRun}
+use Rattle.definition.specs.Calls.{rowDefine, rowRecord, rowStart, rowDrop, rowSweep, rowTry, rowTakeBack, Call, callBoot, callRows, callStep, callRun}
 use Rattle.definition.specs.Script.{Line}
 pub use Rattle.script.specs.declared.Command.{Command}
 pub use Rattle.script.specs.declared.Command.the-variants.{Record, Define, Start, Step, Drop, Unreadable}
@@ -20,6 +20,7 @@ commandOf callStep = Step
 commandOf (callRun n) = Unreadable
 commandOf (callRows (rowDrop k)) = Drop k
 commandOf (callRows rowSweep) = Unreadable
+commandOf (callRows rowTakeBack) = Unreadable
 commandOf (callRows (rowTry c m)) = Unreadable
 
 unfoldable pub said : Option Line → Command
@@ -36,6 +37,7 @@ fileOnto callStep t = t
 fileOnto (callRun n) t = t
 fileOnto (callRows (rowDrop k)) t = t
 fileOnto (callRows rowSweep) t = t
+fileOnto (callRows rowTakeBack) t = t
 fileOnto (callRows (rowTry c m)) t = t
 
 unfoldable pub decoded : Option Line → List ℕ → List ℕ

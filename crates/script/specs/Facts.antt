@@ -10,7 +10,7 @@ use lib.Dec.{eqb, ltb}
 use borrow.Author.Tests.{eqb-true, eqb-false, ltb-true, ltb-false}
 use Rattle.definition.specs.Maybe.{_>>=_, need}
 use Rattle.definition.specs.Lists.{isSome}
-use Rattle.definition.specs.Calls.{rowDefine, rowRecord, rowStart, rowDrop, rowSweep, rowTry, Call, callBoot, callRows, callDefine, callRecord, callStart, callStep, callRun, callDrop}
+use Rattle.definition.specs.Calls.{rowDefine, rowRecord, rowStart, rowDrop, rowSweep, rowTry, rowTakeBack, Call, callBoot, callRows, callDefine, callRecord, callStart, callStep, callRun, callDrop}
 use Rattle.definition.specs.Script.{Line, line, short, int, file, fields, command, readLine}
 use Rattle.script.specs.Parts.{Head, Field, NoField, headOf}
 use Rattle.script.specs.Files.{quickPairs, pairs-length, file-quick}
@@ -27,6 +27,7 @@ Asked n callStep = Unit {0}
 Asked n (callRun k) = ⊥
 Asked n (callRows (rowDrop k)) = Unit {0}
 Asked n (callRows rowSweep) = ⊥
+Asked n (callRows rowTakeBack) = ⊥
 Asked n (callRows (rowTry c m)) = ⊥
 
 pub record Facts (b n : ℕ) (l : Line) : Type 0 where

@@ -14,7 +14,7 @@ use Rattle.definition.specs.Lists.{every, all, isSome, rows, stack}
 use Rattle.definition.specs.Instructions.{pick}
 use Rattle.definition.specs.Classes.{Base, superOf}
 use Rattle.definition.specs.Machine.{Value, emptyValue, intValue, nullValue, objectValue, unlistedValue, Object}
-use Rattle.definition.specs.Tables.{Tables, ClassRow, sizeOf, viewBase, valueOf, classRowAt, usedFields, objectAt, ownedBy, ownerAt, objectRowAt, localAt, operandAt, frameOf, frameAt}
+use Rattle.definition.specs.Tables.{Tables, ClassRow, sizeOf, viewBase, valueOf, classRowAt, entryAt, usedFields, objectAt, ownedBy, ownerAt, objectRowAt, localAt, operandAt, frameOf, frameAt}
 use Rattle.definition.specs.Broken.{isObject, broken}
 use Rattle.laws.specs.Agreement.{super-falls}
 use Rattle.layout.specs.Tests.{every-true}
@@ -22,12 +22,15 @@ use Rattle.layout.specs.Places.{rows-getD, rows-length, stack-length}
 use Rattle.layout.specs.Unbroken.{within-true}
 use Rattle.classfile.specs.Lists.{every-first, every-fails, every-last}
 use Rattle.classfile.specs.Reading.{fieldCount}
-use Rattle.resolution.specs.Quick.{quickBase, quickOf, fileIn, file-there, file-past, either}
+use Rattle.resolution.specs.Quick.{found, quickClass, quickBase, quickOf, fileIn, file-there, file-past, either}
+use Rattle.resolution.specs.Cached.{superBy, superRow, super-by-row, super-row-within}
+use Rattle.resolution.specs.declared.Found.{Found}
 use Rattle.resolution.specs.Slots.{size-none, size-some, own-size, slots-past}
 use Rattle.resolution.specs.Unbroken.{part-none, quick-base}
 use Rattle.store.specs.declared.Fields.{Fields}
 use Rattle.store.specs.declared.Fields.the-variants.{Count, Unfit}
-use Rattle.store.specs.Checks.{fileFits, sourcesFit, linked, linkedSize, Blank, Sized, sizedObject, objectSized, exists, valueIn, localIn, objectIn, frameFit, linksFit, valuesFit, readable, checks, sizesOf, Measured}
+use Rattle.store.specs.Tracing.{cellAt, superEnd, traceQuick}
+use Rattle.store.specs.Checks.{fileFits, sourcesFit, linked, linkedSize, Blank, Sized, Ended, EndedTo, sizedObject, objectSized, exists, valueIn, localIn, objectIn, frameFit, linksFit, valuesFit, readable, checks, sizesOf, Measured}
 use Rattle.store.specs.Same.{sources-first, checks-broken, zeros-at}
 
 -- Whether an object exists
@@ -181,6 +184,75 @@ module _ (n : ℕ) (X : ℕ → Bool) where
   row-fields zero x h k l = absurd (omega arith)
   row-fields (suc w) x h k l = every-first _ _ (lt-ltb w 2 (omega arith)) ∙ (every-first _ _ (lt-ltb (x .class) n l) ∙ every-last _)
 
+-- A table of the rows past the entries of superclasses: of the first class, of one more, and of all
+
+super-none : (b : Base) → superEnd b 0 ≡ 0
+unfolding superEnd
+super-none b = refl
+
+super-past : (b : Base) (c : ℕ) → length (b .classes) ≤ c → superEnd b c ≡ 0
+unfolding superEnd pick
+super-past b zero l = refl
+super-past b (suc c) l = rw (le-ltb (suc c) (length (b .classes)) l, pick)
+
+super-there : (b : Base) (c : ℕ) → 0 < c → c < length (b .classes) → superEnd b c ≡ superRow b c + 1
+unfolding superEnd pick
+super-there b zero z l = absurd (omega arith)
+super-there b (suc c) z l = rw (lt-ltb (suc c) (length (b .classes)) l, pick)
+
+module _ (b : Base) where
+  pub ended-first : (s : List ℕ) → Blank s → EndedTo b 1 s
+  ended-first s l c = (
+    λ h.
+        let z : c ≡ 0 = omega arith in
+        ap (λ (u : List ℕ). getD u c 0) l ∙ (zeros-at 64 c ∙ (sym (super-none b) ∙ ap (superEnd b) (sym z))),
+    λ h. ap (λ (u : List ℕ). getD u c 0) l ∙ zeros-at 64 c,
+  )
+
+  pub ended-more : (s : List ℕ) (n v : ℕ) → EndedTo b n s → n < length s → v ≡ superEnd b n → EndedTo b (n + 1) (set s n v)
+  ended-more s n v h l e c = (λ i. go i (eqb c n) refl, λ i. getD-set-other s n c v 0 (λ z. omega arith) ∙ h c .1 (omega arith))
+    where
+      go : c < n + 1 → (t : Bool) → eqb c n ≡ t → getD (set s n v) c 0 ≡ superEnd b c
+      go i true q = let z = eqb-true c n q in rw z (getD-set-same s n v 0 l ∙ e)
+      go i false q = let z = eqb-false c n q in getD-set-other s n c v 0 z ∙ h c .0 (omega arith)
+
+  pub ended-all : (s : List ℕ) (m : ℕ) → EndedTo b m s → length (b .classes) ≤ m → Ended b s
+  ended-all s m h l c = either c m (λ i. h c .0 i) (λ i. h c .1 i ∙ sym (super-past b c (omega arith)))
+
+module _ (counts classes kept cache : List ℕ) where
+  abbrev quick : Base
+  quick = quickBase counts classes kept cache
+
+  pub quick-many : length (quick .classes) ≡ getD counts 0 0
+  unfolding quickBase
+  quick-many = rows-length (λ c. quickClass kept (classRowAt classes c)) (getD counts 0 0) 0
+
+  pub row-few : (c : ℕ) → superRow quick c ≤ getD counts 2 0
+  row-few c = omega (arith, super-row-within quick c, entries-many)
+    where
+      entries-many : length (quick .cache) ≡ getD counts 2 0
+      entries-many = unfold quickBase in rows-length (entryAt cache) (getD counts 2 0) 0
+
+  -- the row of a superclass's entry that was found is the definition's
+  pub row-there : (number c row n : ℕ) → number ≡ c → row ≡ superRow quick number → 1 ≤ c → n ≡ getD counts 0 0 → c < n → row + 1 ≡ superEnd quick c
+  row-there number c row n e r l m h =
+      let there : superEnd quick c ≡ superRow quick c + 1 = super-there quick c (omega arith) (omega (arith, quick-many)) in
+      let same : superRow quick number ≡ superRow quick c = ap (superRow quick) e in
+      omega (arith, there, same, r)
+
+  -- and so is the superclass by it
+  pub super-read : (number c row : ℕ) (r : Found) → row ≡ superRow quick c → number ≡ c → r ≡ found (superBy (rows (entryAt cache) (getD counts 2 0) 0) number row) → r ≡ found (superOf quick number)
+  unfolding quickBase
+  super-read number c row r p e q = q ∙ ap found (ap (superBy (quick .cache) number) (p ∙ ap (superRow quick) (sym e)) ∙ super-by-row quick number)
+
+-- the trace by such a table
+pub trace-read : (b : Base) (ends counts classes cache objects frames : List ℕ) → Ended b ends
+    → traceQuick (superEnd b) counts classes cache objects frames ≡ traceQuick (cellAt ends) counts classes cache objects frames
+trace-read b ends counts classes cache objects frames h = ap (λ (f : ℕ → ℕ). traceQuick f counts classes cache objects frames) same
+  where
+    same : superEnd b ≡ cellAt ends
+    same = unfold cellAt in λ i c. sym (h c) i
+
 pub blank-length : (s : List ℕ) → Blank s → length s ≡ 64
 blank-length s l = ap length l ∙ length-replicate {A = ℕ} 64 0
 
@@ -294,7 +366,7 @@ module _ (t : Tables) where
   unreadable h = sym (checks-broken t ∙ ap not (every-fails _ _ h))
 
   module _ (h : readable t ≡ true) where
-    pub verdict-values : (v : Bool) → v ≡ valuesFit (quickOf t) (t .counts) (t .objects) (t .frames) → not v ≡ broken t
+    pub verdict-values : (v : Bool) → v ≡ valuesFit (quickOf t) (t .counts) (t .classes) (t .cache) (t .objects) (t .frames) → not v ≡ broken t
     unfolding checks
     verdict-values v e = ap not e ∙ sym (checks-broken t ∙ ap not (every-first _ _ h ∙ every-last _))
 
@@ -302,6 +374,10 @@ module _ (t : Tables) where
     pub readable-few : getD (t .counts) 0 0 ≤ 64
     unfolding readable
     readable-few = within-true (t .counts) (every-true _ h .1 .0) .classes
+
+    pub readable-entries : getD (t .counts) 2 0 ≤ 256
+    unfolding readable
+    readable-entries = within-true (t .counts) (every-true _ h .1 .0) .cache
 
     pub readable-object : sizeOf (quickOf t) 0 ≡ 0
     unfolding readable

@@ -1,5 +1,5 @@
 -- Word 1 as tests in an order in which they can be made: lengths, counts, the report's share and the numbers of rows, then the classes' files, and after these, with
--- classes read at once off files that are known to read, superclasses and sizes, rows and values.
+-- classes read at once off files that are known to read, superclasses and sizes, rows, values and the trace.
 use mathlib.Core.Bool.{Bool, true, false}
 use mathlib.Core.List.{List, [], _∷_}
 use Prim.Native.Nat.{ℕ, _+_, _*_, _-_, _<_, _≤_}
@@ -18,6 +18,7 @@ use Rattle.rows.specs.Numbers.{numbersFit}
 use Rattle.frames.specs.Made.{madeIn}
 use Rattle.classfile.specs.Reading.{partOf}
 use Rattle.resolution.specs.Quick.{quickOf}
+use Rattle.store.specs.Tracing.{superEnd, traceQuick}
 use Rattle.store.specs.declared.Fields.{Fields}
 use Rattle.store.specs.declared.Fields.the-variants.{Count, Unfit}
 
@@ -51,6 +52,13 @@ Blank sizes = sizes ≡ replicate classLimit 0
 
 abbrev pub Sized : Base → ℕ → List ℕ → Type 0
 Sized b n sizes = (c : ℕ) → (c < n → (getD sizes c 0 ≡ sizeOf b c) × (sizeOf b c ≤ 16)) × (n ≤ c → getD sizes c 0 ≡ 0)
+
+-- a table that has, of each class, the row past the entry of its superclass; and one that has those of classes 0 to n - 1, and zeros
+abbrev pub Ended : Base → List ℕ → Type 0
+Ended b t = (c : ℕ) → getD t c 0 ≡ superEnd b c
+
+abbrev pub EndedTo : Base → ℕ → List ℕ → Type 0
+EndedTo b n t = (c : ℕ) → (c < n → getD t c 0 ≡ superEnd b c) × (n ≤ c → getD t c 0 ≡ 0)
 
 -- a row of objects, where the size of the object's class stands in such a table
 abbrev pub sizedObject : List ℕ → List ℕ → ℕ → Object
@@ -101,13 +109,14 @@ objectsFit b counts objects = all (objectIn (getD counts 0 0) (exists counts (ge
 unfoldable pub framesFit : List ℕ → List ℕ → ℕ → Bool
 framesFit counts frames k = all (frameFit (getD counts 0 0) (exists counts (getD counts 5 0))) (stack (frameIn frames k) (getD counts (6 + k) 0))
 
--- superclasses and sizes, and all values of objects and frames
-unfoldable pub valuesFit : Base → List ℕ → List ℕ → List ℕ → Bool
-valuesFit b counts objects frames = every
+-- superclasses and sizes, all values of objects and frames, and the trace
+unfoldable pub valuesFit : Base → List ℕ → List ℕ → List ℕ → List ℕ → List ℕ → Bool
+valuesFit b counts classes cache objects frames = every
     (linksFit b (getD counts 0 0)
     ∷ objectsFit b counts objects
     ∷ framesFit counts frames 0
     ∷ framesFit counts frames 1
+    ∷ traceQuick (superEnd b) counts classes cache objects frames
     ∷ [])
 
 -- All together
@@ -128,7 +137,7 @@ readable t = every
     ∷ [])
 
 unfoldable pub checks : Tables → Bool
-checks t = every (readable t ∷ valuesFit (quickOf t) (t .counts) (t .objects) (t .frames) ∷ [])
+checks t = every (readable t ∷ valuesFit (quickOf t) (t .counts) (t .classes) (t .cache) (t .objects) (t .frames) ∷ [])
 
 -- how many fields each class of the tables has, 0 where there is none; all 0 if the tables are broken
 unfoldable pub sizesOf : Tables → List ℕ

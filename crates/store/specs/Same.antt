@@ -17,9 +17,9 @@ use Rattle.definition.specs.Tables.{Tables, shaped, ClassRow, sizeOf, classRowA
 use Rattle.definition.specs.Broken.{within, isObject, entryFits, valueFits, localFits, objectFits, frameFits, sound, whole, broken}
 use Rattle.layout.specs.Tests.{From, every-true, true-every, all-all, all-test, is-some, some-is, same-test}
 use Rattle.layout.specs.Places.{rows-length, all-rows, rows-all}
-use Rattle.layout.specs.Whole.{First, ClassSound, Classes, fits-classes, classes-fit}
+use Rattle.layout.specs.Whole.{First, ClassSound, Classes, fits-classes, classes-fit, sound-true}
 use Rattle.layout.specs.View.{object-there, object-past, object-free}
-use Rattle.layout.specs.Unbroken.{within-true}
+use Rattle.layout.specs.Unbroken.{within-true, view-whole}
 use Rattle.layout.specs.ReadBack.{shaped-true}
 use Rattle.rows.specs.Numbers.{numbersFit}
 use Rattle.frames.specs.Made.{made-by-is}
@@ -29,6 +29,7 @@ use Rattle.classfile.specs.Searches.{file-part}
 use Rattle.classfile.specs.Lists.{every-first, every-fails}
 use Rattle.resolution.specs.Quick.{either}
 use Rattle.resolution.specs.Unbroken.{Sources, part-same, part-within, part-reads, quick-view, row-first, row-other}
+use Rattle.store.specs.Tracing.{superEnd, traceQuick, same-trace}
 use Rattle.store.specs.Checks.{fileFits, sourcesFit, linked, linksFit, number, exists, valueIn, localIn, objectIn, frameFit, rowsFit, objectsFit, framesFit, valuesFit, shareFits, readable, checks}
 
 -- Values: an object exists exactly if its row has been used and has an owner
@@ -226,31 +227,26 @@ checks-sound t h =
     let q = links-said b n (ap (λ (d : Base). linksFit d n) (sym e) ∙ v .0) c k l in
     let u = is-some _ (q .0) in
     record { loader = sources-other (getD (t .counts) 1 0) (t .kept) (classRowAt (t .classes)) n (p .1 .1 .1 .1 .0) c k l .loader; file = f .0; reads = f .1; super = u .0; isSuper = u .1; size = q .1 }) in
+    let sounds : sound (view t) ≡ true =
     true-every _ (
-      p .0,
+      classes-fit _ _ _ classes,
       (
-        p .1 .0,
+        ap (λ (m : ℕ). all (entryFits m) (cacheOf t)) (classes-number t) ∙ r .0,
         (
-          true-every _ (
-            classes-fit _ _ _ classes,
+          r .1 .0,
+          (
+            r .1 .1 .0,
             (
-              ap (λ (m : ℕ). all (entryFits m) (cacheOf t)) (classes-number t) ∙ r .0,
-              (
-                r .1 .0,
-                (
-                  r .1 .1 .0,
-                  (
-                    objects-same t b ∙ (ap (λ (d : Base). objectsFit d (t .counts) (t .objects)) (sym e) ∙ v .1 .0),
-                    (frames-same t b 0 ∙ v .1 .1 .0, (frames-same t b 1 ∙ v .1 .1 .1 .0, (p .1 .1 .1 .0, (sym (share-same t b) ∙ p .1 .1 .0, tt)))),
-                  ),
-                ),
-              ),
+              objects-same t b ∙ (ap (λ (d : Base). objectsFit d (t .counts) (t .objects)) (sym e) ∙ v .1 .0),
+              (frames-same t b 0 ∙ v .1 .1 .0, (frames-same t b 1 ∙ v .1 .1 .1 .0, (p .1 .1 .1 .0, (sym (share-same t b) ∙ p .1 .1 .0, tt)))),
             ),
           ),
-          tt,
         ),
       ),
-    )
+    ) in
+    let w = view-whole t (within-true (t .counts) (p .1 .0)) (sound-true (view t) sounds) in
+    let trace : Base → Bool = λ d. traceQuick (superEnd d) (t .counts) (t .classes) (t .cache) (t .objects) (t .frames) in
+    true-every _ (p .0, (p .1 .0, (sounds, (same-trace t w ∙ (ap trace (sym e) ∙ v .1 .1 .1 .1 .0), tt))))
 
 sound-checks : (t : Tables) → whole t ≡ true → checks t ≡ true
 unfolding checks readable whole sound view viewOver rowsFit valuesFit numbersFit
@@ -265,6 +261,8 @@ sound-checks t h =
     let files = said-sources (getD (t .counts) 1 0) (t .kept) g n (row-first b (keptOf t) g n k) (λ c i j. sources-fit t bytes c b (row-other b (keptOf t) g n k c i j)) in
     let e = quick-view t (fit-sources t bytes files) in
     let links = said-links b n (λ c i j. let s = row-other b (keptOf t) g n k c i j in (some-is _ _ (s .isSuper), s .size)) in
+    let w = view-whole t (within-true (t .counts) (p .1 .0)) (sound-true (view t) (p .1 .1 .0)) in
+    let trace : Base → Bool = λ d. traceQuick (superEnd d) (t .counts) (t .classes) (t .cache) (t .objects) (t .frames) in
     true-every _ (
       true-every _ (
         p .0,
@@ -287,7 +285,7 @@ sound-checks t h =
           ap (λ (d : Base). linksFit d n) e ∙ links,
           (
             ap (λ (d : Base). objectsFit d (t .counts) (t .objects)) e ∙ (sym (objects-same t b) ∙ q .1 .1 .1 .1 .0),
-            (sym (frames-same t b 0) ∙ q .1 .1 .1 .1 .1 .0, (sym (frames-same t b 1) ∙ q .1 .1 .1 .1 .1 .1 .0, tt)),
+            (sym (frames-same t b 0) ∙ q .1 .1 .1 .1 .1 .0, (sym (frames-same t b 1) ∙ q .1 .1 .1 .1 .1 .1 .0, (ap trace e ∙ (sym (same-trace t w) ∙ p .1 .1 .1 .0), tt))),
           ),
         ),
         tt,

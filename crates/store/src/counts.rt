@@ -15,6 +15,7 @@ use definition::numbers::FRAME_LIMIT;
 use definition::numbers::FRAMES_LENGTH;
 use definition::numbers::KEPT_LENGTH;
 use definition::numbers::KEPT_LIMIT;
+use definition::numbers::LOADS_CELL;
 use definition::numbers::OBJECT_LIMIT;
 use definition::numbers::OBJECTS_LENGTH;
 use definition::numbers::SHARE_LIMIT;
@@ -22,6 +23,7 @@ use definition::numbers::SUBTYPE_LIMIT;
 use definition::numbers::SUBTYPES_LENGTH;
 use definition::numbers::TIE_LIMIT;
 use definition::numbers::TIES_LENGTH;
+use definition::numbers::TRACE_LIMIT;
 ghost use mathlib.Core.Path.{_≡_};
 ghost use lib.ListN.{getD};
 ghost use lib.Dec.{leb};
@@ -102,7 +104,10 @@ pub(crate) fn are_within(counts: &[u16]) -> bool
     if !is_within(counts, COUNT_FRAMES, FRAME_LIMIT) {
         return false;
     }
-    is_within(counts, COUNT_REPORT, FRAME_LIMIT)
+    if !is_within(counts, COUNT_REPORT, FRAME_LIMIT) {
+        return false;
+    }
+    is_within(counts, LOADS_CELL, TRACE_LIMIT)
 }
 
 // The report made no more objects than its share.

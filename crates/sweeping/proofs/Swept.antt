@@ -5,13 +5,14 @@ use mathlib.Core.Option.{some, Option·none-ne-some, Option·some-injective}
 use mathlib.Core.List.{List, [], _∷_, _++_, append-assoc}
 use Prim.Native.Nat.{ℕ, zero, suc, _+_, _*_, _<_, _≤_}
 use native.Mathlib.Omega.{arith}
-use lib.ListN.{length, replicate, getD}
+use lib.ListN.{length, replicate, getD, set}
 use lib.Dec.{eqb, ltb}
 use borrow.Author.Tests.{ltb-true, ltb-false}
 use Rattle.definition.specs.declared.Refusal.the-variants.{Word}
 use Rattle.definition.specs.declared.Reply.the-variants.{Swept, Denied}
 use Rattle.definition.specs.Chains.{has}
 use Rattle.definition.specs.Classes.{Base}
+use Rattle.definition.specs.Numbers.{loadsCell}
 use Rattle.definition.specs.Lists.{writeRows}
 use Rattle.definition.specs.Machine.{Value, emptyValue, intValue, nullValue, objectValue, unlistedValue, Object, Objects, existing, Exists, Frame}
 use Rattle.definition.specs.Sweeping.{named, roots, reached, sweptFrom, freedFrom}
@@ -135,17 +136,17 @@ module _ (t : Tables) (sound : broken t ≡ false) (sizes : List ℕ) (sized : S
 
   -- what the definition leaves
   swept : perform callSweep t
-      ≡ done (Swept (freedFrom R 0 os)) (tables (writeRows putOwner (sweptFrom R 0 os) 0 (t .counts)) (t .classes) (t .kept) (t .cache) (t .ties) (t .subtypes) (t .objects) (t .frames))
+      ≡ done (Swept (freedFrom R 0 os)) (tables (set (writeRows putOwner (sweptFrom R 0 os) 0 (t .counts)) loadsCell 0) (t .classes) (t .kept) (t .cache) (t .ties) (t .subtypes) (t .objects) (t .frames))
   unfolding perform sweepRows carried view viewOver
   swept = wrap-carried Denied sweepRows t sound ∙ ap (done (Swept (freedFrom R 0 os))) (sweep-writes b t R (unbroken t sound .counts .objects))
 
   pub sweep-done : (marks c : List ℕ) (n : ℕ) → marks ≡ marked sizes (t .counts) (t .objects) (t .frames) (replicate 256 0) .marks
       → freed c n ≡ freeRows marks (getD (t .counts) 5 0) 0 (t .counts) 0
-      → done (Swept n) (tables c (t .classes) (t .kept) (t .cache) (t .ties) (t .subtypes) (t .objects) (t .frames)) ≡ perform callSweep t
+      → done (Swept n) (tables (set c loadsCell 0) (t .classes) (t .kept) (t .cache) (t .ties) (t .subtypes) (t .objects) (t .frames)) ≡ perform callSweep t
   unfolding objectsOf
   sweep-done marks c n e f =
       let same : (o : ℕ) → eqb (getD marks o 0) 0 ≡ not (has eqb o R) = λ o. ap (λ (m : List ℕ). eqb (getD m o 0) 0) e ∙ marks-same o in
       let z : 0 + freedFrom R 0 os ≡ freedFrom R 0 os = omega arith in
       let g : freed c n ≡ freed (writeRows putOwner (sweptFrom R 0 os) 0 (t .counts)) (freedFrom R 0 os) =
       f ∙ (rows-freed R marks same b (t .counts) (t .objects) (getD (t .counts) 5 0) 0 0 (t .counts) (λ j l. refl) ∙ ap (freed (writeRows putOwner (sweptFrom R 0 os) 0 (t .counts))) z) in
-      ap (λ (r : Freed). done (Swept (r .number)) (tables (r .counts) (t .classes) (t .kept) (t .cache) (t .ties) (t .subtypes) (t .objects) (t .frames))) g ∙ sym swept
+      ap (λ (r : Freed). done (Swept (r .number)) (tables (set (r .counts) loadsCell 0) (t .classes) (t .kept) (t .cache) (t .ties) (t .subtypes) (t .objects) (t .frames))) g ∙ sym swept

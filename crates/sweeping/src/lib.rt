@@ -6,13 +6,26 @@ use crate::freeing::free_unmarked;
 use crate::marking::mark_reached;
 use definition::Refusal;
 use definition::Reply;
+use definition::numbers::LOADS_CELL;
 use definition::numbers::OBJECT_LIMIT;
 use definition::numbers::WORD_BROKEN;
 ghost use mathlib.Core.Path.{_≡_};
+ghost use lib.ListN.{set};
+ghost use Rattle.definition.specs.Numbers.{loadsCell};
 ghost use Rattle.definition.specs.Tables.{tables};
 ghost use Rattle.definition.specs.Calls.{done, callSweep, perform};
 
-// Objects that no frame reaches are freed; the answer is their number. Refusals: 1
+// No load before it can be taken back. Counts that have none open are not written.
+fn close(counts: &mut [u16])
+    ensures { λ _. ⌜ now (counts .exit) ≡ set (now (counts .entry)) loadsCell 0 ⌝ }
+{
+    if cells::at16(counts, LOADS_CELL) == 0 {
+        return;
+    }
+    cells::put16(counts, LOADS_CELL, 0);
+}
+
+// Objects that no frame reaches are freed; the answer is their number. No load before it can be taken back. Refusals: 1
 pub fn sweep(
     counts: &mut [u16],
     classes: &[u16],
@@ -41,5 +54,7 @@ pub fn sweep(
     let sizes = tested.fields;
     let mut marks = [0u8; OBJECT_LIMIT as usize];
     mark_reached(&mut marks, &sizes, counts, objects, frames);
-    Reply::Swept(free_unmarked(counts, &marks))
+    let freed = free_unmarked(counts, &marks);
+    close(counts);
+    Reply::Swept(freed)
 }

@@ -1,6 +1,6 @@
 -- Where a branch goes, on tables, where the step ran: a goto to its target with nothing popped (`goto-goes`); an ifeq pops an int and goes to its target if it is 0, else past the instruction
 -- (`ifeq-goes`); an if_icmplt pops two ints and goes to its target if the lower is less than the upper, as signed ints, else past it (`less-goes`). Nothing else of the frame changes, nor any
--- frame below. And a drop clears its task's frames and nothing else (`drop-clears`, `drop-tables`).
+-- frame below. And a drop clears its task's frames, lets no load be taken back any more, and changes nothing else (`drop-clears`, `drop-tables`).
 use mathlib.Core.Path.{_≡_, refl, sym, ap, _∙_, subst}
 use mathlib.Core.Bool.{Bool, true, false}
 use mathlib.Core.List.{List, [], _∷_}
@@ -16,19 +16,20 @@ use Rattle.definition.specs.declared.Condition.{Condition}
 use Rattle.definition.specs.declared.Condition.the-variants.{Always, IfZero, IfLess}
 use Rattle.definition.specs.declared.Instruction.{Instruction}
 use Rattle.definition.specs.declared.Instruction.the-variants.{Branch}
-use Rattle.definition.specs.Numbers.{countFrames}
+use Rattle.definition.specs.Numbers.{countFrames, loadsCell}
 use Rattle.definition.specs.Answers.{_>>=_, ok, need, signed, less}
 use Rattle.definition.specs.Instructions.{pick}
 use Rattle.definition.specs.Machine.{Value, emptyValue, intValue, nullValue, objectValue, unlistedValue, Frame, Now, Progress, moved, int!, jumps, execute}
 use Rattle.definition.specs.Tables.{Tables, tables, worldOf, viewBase, framesIn, withFrames, view, put}
 use Rattle.definition.specs.Broken.{broken}
-use Rattle.definition.specs.Calls.{Done, done, carried, dropRows, callDrop, perform, stepTables, turn}
+use Rattle.definition.specs.Calls.{Done, done, carried, closed, dropRows, callDrop, perform, stepTables, turn}
 use Rattle.laws.specs.Results.{bind-ok, ok-inj}
 use Rattle.laws.specs.Wrapped.{wrap-carried}
 use Rattle.layout.specs.View.{drop-writes}
 use Rattle.layout.specs.Unbroken.{broken-false}
 use Rattle.layout.specs.ReadBack.{view-put}
 use Rattle.unbroken.specs.Steps.{pop-is}
+use Rattle.unbroken.specs.Cut.{whole-traced}
 use Rattle.unbroken.specs.WholeRows.{frames-whole}
 use Rattle.unbroken.specs.Sweeping.{Turns, progressed-frames, ran-shows}
 
@@ -114,18 +115,20 @@ module _ (t : Tables) (f : Frame) (fs : List Frame) (n : Now) (k p : ℕ) (r : T
 -- A drop, on tables that aren't broken
 
 module _ (t : Tables) (k : ℕ) (h : broken t ≡ false) (two : k < 2) where
-  drop-done : perform (callDrop k) t ≡ done Accepted (put (withFrames k [] (view t)) t)
+  drop-done : perform (callDrop k) t ≡ done Accepted (put (closed (withFrames k [] (view t))) t)
   unfolding perform dropRows
   drop-done = wrap-carried Denied (dropRows k) t h ∙ rw (lt-ltb k 2 two) (unfold need _>>=_ carried in refl)
 
   pub drop-accepted : perform (callDrop k) t .answer ≡ Accepted
   drop-accepted = ap (λ (d : Done Reply). d .answer) drop-done
 
-  -- what the tables show: no frame of its task, all else as it was
-  pub drop-clears : view (perform (callDrop k) t .tables) ≡ withFrames k [] (view t)
-  drop-clears = let u = broken-false t h in ap (λ (d : Done Reply). view (d .tables)) drop-done ∙ view-put (withFrames k [] (view t)) t (u .0) (frames-whole (view t) (u .1) k [] (omega arith) tt)
+  -- what the tables show: no frame of its task, no load that can be taken back, all else as it was
+  pub drop-clears : view (perform (callDrop k) t .tables) ≡ closed (withFrames k [] (view t))
+  drop-clears =
+      let u = broken-false t h in
+      ap (λ (d : Done Reply). view (d .tables)) drop-done ∙ view-put (closed (withFrames k [] (view t))) t (u .0) (whole-traced (withFrames k [] (view t)) [] (omega arith) (frames-whole (view t) (u .1) k [] (omega arith) tt))
 
-  -- and of the cells nothing changes but the count of that task's frames
-  pub drop-tables : perform (callDrop k) t .tables ≡ tables (set (t .counts) (countFrames + k) 0) (t .classes) (t .kept) (t .cache) (t .ties) (t .subtypes) (t .objects) (t .frames)
+  -- and of the cells nothing changes but the count of that task's frames and that of the loads
+  pub drop-tables : perform (callDrop k) t .tables ≡ tables (set (set (t .counts) (countFrames + k) 0) loadsCell 0) (t .classes) (t .kept) (t .cache) (t .ties) (t .subtypes) (t .objects) (t .frames)
   unfolding view
   drop-tables = ap (λ (d : Done Reply). d .tables) drop-done ∙ drop-writes (viewBase t) t k two

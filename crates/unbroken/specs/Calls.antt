@@ -8,16 +8,16 @@ use native.Mathlib.Omega.{arith}
 use lib.ListN.{length, getElem?, length-append, length-map}
 use lib.Dec.{leb}
 use borrow.Author.Tests.{leb-true, ltb-true}
-use Rattle.definition.specs.Answers.{ok}
+use Rattle.definition.specs.Answers.{Result, ok, refused}
 use Rattle.definition.specs.Broken.{inTurn, numbered}
-use Rattle.definition.specs.Calls.{Given, addEntry, addFile, bootRows, defineRows, dropRows, recordRows, startRows, sweepRows, stepOn, stepRows, stepTask, RowCall, rowDefine, rowRecord, rowStart, rowDrop, rowSweep, rowTry, onRowCall}
+use Rattle.definition.specs.Calls.{Given, addEntry, addFile, bootRows, defineRows, dropRows, recordRows, startRows, sweepRows, stepOn, stepRows, stepTask, RowCall, rowDefine, rowRecord, rowStart, rowDrop, rowSweep, rowTry, rowTakeBack, takenBack, progressed, onRowCall}
 use Rattle.definition.specs.Classes.{Base, Class, Entry, find, ownSlots, slots, superOf}
 use Rattle.definition.specs.Constraints.{Subtype, Tie, World}
 use Rattle.definition.specs.File.{File, classOf, readFile}
 use Rattle.definition.specs.Loading.{define, recorded, withClass, withEntry}
 use Rattle.definition.specs.Machine.{Exists, Frame, madeBy}
 use Rattle.definition.specs.Requests.{at}
-use Rattle.definition.specs.Tables.{ClassRow, Rows, baseOf, classAt, fileAt, sizeOf, worldOf, framesIn}
+use Rattle.definition.specs.Tables.{ClassRow, Level, Rows, baseOf, classAt, fileAt, sizeOf, worldOf, framesIn, levelOf, cutTo, withObjects, withFrames, withTrace}
 use Rattle.laws.specs.Agreement.{find-more, is-super}
 use Rattle.laws.specs.Growth.{Grows, grows-class, grows-entry}
 use Rattle.laws.specs.Options.{nth-last}
@@ -26,13 +26,28 @@ use Rattle.laws.specs.Slots.{slots-up}
 use Rattle.laws.specs.Stable.{own-is}
 use Rattle.layout.specs.InTurn.{numbering-on}
 use Rattle.layout.specs.Tests.{All, all-both}
-use Rattle.layout.specs.Whole.{Between, Classes, Framed, Listed, RowSound, Whole}
+use Rattle.layout.specs.Whole.{Between, Classes, Framed, Listed, RowSound, Whole, whole-sound}
+use Rattle.layout.specs.Traced.{EachTurn, Leaves, Traced}
+use Rattle.layout.specs.View.{entry-added}
 use Rattle.unbroken.specs.Steps.{class-found, step-moves}
 use Rattle.laws.specs.Tried.{try-leaves}
 use Rattle.laws.specs.Wrapped.{Ok, ok-at, then}
 use Rattle.unbroken.specs.Accepted.{recorded-is, defined-is}
 use Rattle.unbroken.specs.Swept.{objects-whole}
+use Rattle.unbroken.specs.Cut.{whole-traced, few, cut-whole}
+use Rattle.unbroken.specs.Traces.{entry-there, rows-trace, step-trace, traced-kept, step-traced}
 use Rattle.unbroken.specs.WholeRows.{cls-loader, W, N, ready, frames-whole, whole-progressed, start-moves, same-size, grown-class, grown-objects, grown-frames, grown-cache, grown-classes, classes-last, file-more, file-last, kept-same, map-last, overs-between, subs-loader}
+
+ok-both : {A : Type 0} (P Q : A → Type 0) (o : Result A) → Ok o P → Ok o Q → Ok o (λ a. P a × Q a)
+ok-both P Q (refused x) p q = tt
+ok-both P Q (ok a) p q = (p, q)
+
+ok-map : {A : Type 0} (P Q : A → Type 0) (o : Result A) → ((a : A) → P a → Q a) → Ok o P → Ok o Q
+ok-map P Q (refused x) f p = tt
+ok-map P Q (ok a) f p = f a p
+
+closed-whole : (r : Rows) → Whole r → Whole (withTrace [] r)
+closed-whole r w = whole-traced r [] (omega arith) w
 
 -- Loads
 
@@ -43,8 +58,8 @@ module _ (r : Rows) (w : Whole r) where
       let X = withEntry (W r w) (at l n) c in
       let g : Grows (W r w) X = grows-entry (W r w) (at l n) c in
       let f : (k : ClassRow) (f : File) → fileAt (r .kept) k ≡ some f → fileAt (r .kept) k ≡ some f = λ k f x. x in
-      record {
-        limits = record { classes = w .limits .classes; kept = w .limits .kept; cache = omega (arith, length-append (r .cache) (e ∷ [])); ties = w .limits .ties; subtypes = w .limits .subtypes; objects = w .limits .objects; quote = w .limits .quote; report = w .limits .report };
+      subst Whole (sym (entry-added r (at l n) c)) (record {
+        limits = record { classes = w .limits .classes; kept = w .limits .kept; cache = omega (arith, length-append (r .cache) (e ∷ [])); ties = w .limits .ties; subtypes = w .limits .subtypes; objects = w .limits .objects; quote = w .limits .quote; report = w .limits .report; trace = few 32 (levelOf r ∷ r .trace) };
         classes = grown-classes (W r w .base) (X .base) (r .kept) (r .kept) (r .classes) (grown-class r w X g (r .kept) f) (w .classes);
         cache = all-both (Listed (N r w)) (r .cache) (e ∷ []) (w .cache) (record { loader = a; class = omega (arith, length-map (r .classes) (classAt (r .kept))) }, tt);
         ties = w .ties;
@@ -54,18 +69,18 @@ module _ (r : Rows) (w : Whole r) where
         report = w .report;
         numbers = w .numbers;
         share = w .share;
-      }
+      })
 
   pub whole-record : (l n c : ℕ) (v : World) → recorded l n c (W r w) ≡ ok v → Whole (addEntry r v)
   whole-record l n c v e = elim (recorded-is l n c (W r w) v e) [
-    | inl q ↦ subst (λ (z : World). Whole (addEntry r z)) (q .is) w
+    | inl q ↦ subst (λ (z : World). Whole (addEntry r z)) (q .is) (subst Whole (sym (entry-there r)) w)
     | inr x ↦ subst (λ (z : World). Whole (addEntry r z)) (x .is) (whole-entry l n c (x .loader) (x .class) (x .room))
   ]
 
   pub world-recorded : (l n c : ℕ) (v : World) → recorded l n c (W r w) ≡ ok v → worldOf (addEntry r v) ≡ v
   world-recorded l n c v e = elim (recorded-is l n c (W r w) v e) [
-    | inl q ↦ subst (λ (z : World). worldOf (addEntry r z) ≡ z) (q .is) refl
-    | inr x ↦ subst (λ (z : World). worldOf (addEntry r z) ≡ z) (x .is) refl
+    | inl q ↦ subst (λ (z : World). worldOf (addEntry r z) ≡ z) (q .is) (ap worldOf (entry-there r))
+    | inr x ↦ subst (λ (z : World). worldOf (addEntry r z) ≡ z) (x .is) (ap worldOf (entry-added r (at l n) c))
   ]
 
   module _ (l : ℕ) (bs : List ℕ) (f : File) (a : l < 16) (rf : readFile bs ≡ some f) (us : List Tie) (ss : List Subtype) where
@@ -126,6 +141,7 @@ module _ (r : Rows) (w : Whole r) where
           objects = w .limits .objects;
           quote = w .limits .quote;
           report = w .limits .report;
+          trace = few 32 (levelOf r ∷ r .trace);
         };
         classes = subst (λ (b : Base). Classes b (r .kept ++ bs) (r .classes ++ (row ∷ []))) (sym base-is)
             (classes-last (W r w .base) (Y .base) (r .kept) (r .kept ++ bs) (r .classes) row (omega (arith, plt)) (grown-class r w Y grew (r .kept ++ bs) (file-more (r .kept) bs))
@@ -173,15 +189,15 @@ module _ (r : Rows) (w : Whole r) where
 
   start-whole : (k l n m v : ℕ) → Ok (startRows k l n m v r) Stays
   unfolding startRows
-  start-whole k l n m v = then Stays _ _ (λ _ a. then Stays _ _ (λ o e. whole-progressed r w k o (ok-at _ _ (start-moves r w k l n m v (framesIn k r) (ltb-true k 2 (need-ok _ _ a))) o e)))
+  start-whole k l n m v = then Stays _ _ (λ _ a. then Stays _ _ (λ o e. closed-whole (progressed k r o) (whole-progressed r w k o (ok-at _ _ (start-moves r w k l n m v (framesIn k r) (ltb-true k 2 (need-ok _ _ a))) o e))))
 
   task-whole : (k : ℕ) → k < 2 → (f : Frame) (fs : List Frame) → All (Framed (N r w) (Exists (r .objects))) (f ∷ fs) → length (f ∷ fs) ≤ 32 → Ok (stepTask k (worldOf r) f fs r) Stays
   unfolding stepTask
-  task-whole k two f fs a c = then Stays _ _ (λ o e. whole-progressed r w k o (ok-at _ _ (step-moves (W r w) (N r w) (r .objects) (ready r w) k two f fs a c) o e))
+  task-whole k two f fs a c = then Stays _ _ (λ o e. closed-whole (progressed k r o) (whole-progressed r w k o (ok-at _ _ (step-moves (W r w) (N r w) (r .objects) (ready r w) k two f fs a c) o e)))
 
-  pub step-whole : Ok (stepRows r) Stays
+  step-stays : Ok (stepRows r) Stays
   unfolding stepRows
-  step-whole = go (r .quote) (r .report) (w .quote) (w .report) (w .limits .quote) (w .limits .report)
+  step-stays = go (r .quote) (r .report) (w .quote) (w .report) (w .limits .quote) (w .limits .report)
     where
       go : (q p : List Frame) → All (Framed (N r w) (Exists (r .objects))) q → All (Framed (N r w) (Exists (r .objects))) p → length q ≤ 32 → length p ≤ 32 → Ok (stepOn q p (worldOf r) r) Stays
       go (f ∷ fs) p a b c d = unfold stepOn in task-whole 0 (omega arith) f fs a c
@@ -190,24 +206,42 @@ module _ (r : Rows) (w : Whole r) where
 
   drop-whole : (k : ℕ) → Ok (dropRows k r) Stays
   unfolding dropRows
-  drop-whole k = then Stays _ _ (λ _ _. frames-whole r w k [] (omega arith) tt)
+  drop-whole k = then Stays _ _ (λ _ _. closed-whole (withFrames k [] r) (frames-whole r w k [] (omega arith) tt))
 
   -- what is swept is reached by no frame and no field of an object that stays
   sweep-whole : Ok (sweepRows r) Stays
   unfolding sweepRows
-  sweep-whole = objects-whole r w
+  sweep-whole = closed-whole (withObjects _ r) (objects-whole r w)
 
-  pub rows-whole : (c : RowCall) → Ok (onRowCall c r) Stays
-  rows-whole (rowDefine l bs) = define-whole l bs
-  rows-whole (rowRecord l n c) = record-whole l n c
-  rows-whole (rowStart k l n m v) = start-whole k l n m v
-  rows-whole (rowDrop k) = drop-whole k
-  rows-whole rowSweep = sweep-whole
-  rows-whole (rowTry c n) = try-leaves Whole c n r w
+  -- the rows that the latest load left are cut to its level
+  taken-whole : (ls : List Level) → EachTurn Leaves ls r → length ls ≤ 32 → Ok (takenBack ls r) Stays
+  unfolding takenBack
+  taken-whole [] b h = tt
+  taken-whole (l ∷ ls) b h = whole-traced (cutTo l r) ls (omega arith) (cut-whole l r (b .0 .1) (b .0 .0) w)
+
+  rows-stay : (c : RowCall) → Traced r → Ok (onRowCall c r) Stays
+  rows-stay (rowDefine l bs) b = define-whole l bs
+  rows-stay (rowRecord l n c) b = record-whole l n c
+  rows-stay (rowStart k l n m v) b = start-whole k l n m v
+  rows-stay (rowDrop k) b = drop-whole k
+  rows-stay rowSweep b = sweep-whole
+  rows-stay (rowTry c n) b = try-leaves Whole c n r w
+  rows-stay rowTakeBack b = taken-whole (r .trace) b (w .limits .trace)
+
+  -- and each turn of taking back, from there, leaves a store that isn't broken
+
+  pub rows-whole : (c : RowCall) → Traced r → Ok (onRowCall c r) (λ g. Whole (g .rows) × Traced (g .rows))
+  rows-whole c b = ok-both _ _ (onRowCall c r) (rows-stay c b) (ok-map _ _ (onRowCall c r) (λ g t. traced-kept c r (g .rows) (whole-sound r w) t b) (rows-trace r (w .numbers) c))
+
+  pub step-whole : Traced r → Ok (stepRows r) (λ g. Whole (g .rows) × Traced (g .rows))
+  step-whole b = ok-both _ _ (stepRows r) step-stays (ok-map _ _ (stepRows r) (λ g t. step-traced r (g .rows) t b) (step-trace r))
+
+pub boot-traced : Traced bootRows
+boot-traced = tt
 
 pub boot-whole : Whole bootRows
 boot-whole = record {
-  limits = record { classes = omega arith; kept = omega arith; cache = omega arith; ties = omega arith; subtypes = omega arith; objects = omega arith; quote = omega arith; report = omega arith };
+  limits = record { classes = omega arith; kept = omega arith; cache = omega arith; ties = omega arith; subtypes = omega arith; objects = omega arith; quote = omega arith; report = omega arith; trace = omega arith };
   classes = (record { loader = refl; start = refl; size = refl }, tt);
   cache = (record { loader = omega arith; class = omega arith }, tt);
   ties = tt;

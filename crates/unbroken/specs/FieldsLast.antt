@@ -5,8 +5,9 @@ use mathlib.Core.Bool.{Bool, true, false}
 use mathlib.Core.Option.{Option, none, some, Option·none-ne-some, Option·some-injective}
 use mathlib.Core.List.{List, [], _∷_}
 use mathlib.Core.Logic.{_⊎_, inl, inr}
-use Prim.Native.Nat.{ℕ, _<_}
-use lib.ListN.{getElem?}
+use Prim.Native.Nat.{ℕ, _<_, _≤_}
+use native.Mathlib.Omega.{arith}
+use lib.ListN.{getElem?, length-map}
 use lib.Dec.{eqb}
 use borrow.Author.Tests.{eqb-true, eqb-false}
 use Rattle.definition.specs.declared.Answer.{Answer}
@@ -23,8 +24,8 @@ use Rattle.definition.specs.Constraints.{World}
 use Rattle.definition.specs.Instructions.{Decoded}
 use Rattle.definition.specs.Machine.{Value, objectValue, Object, Objects, existing, Frame, Progress, Now, execute, give, step}
 use Rattle.definition.specs.Loading.{started}
-use Rattle.definition.specs.Tables.{Tables, Rows, worldOf, framesIn, view}
-use Rattle.definition.specs.Calls.{Given, defineRows, recordRows, startRows, dropRows, stepTask, stepOn, stepRows, stepTables, turn, RowCall, rowDefine, rowRecord, rowStart, rowDrop, rowSweep, rowTry, onRowCall, Call, callBoot, callRows, callStep, callRun, perform, performAll}
+use Rattle.definition.specs.Tables.{Tables, Level, Rows, classAt, cutTo, worldOf, framesIn, view}
+use Rattle.definition.specs.Calls.{Given, takenBack, callTakeBack, defineRows, recordRows, startRows, dropRows, stepTask, stepOn, stepRows, stepTables, turn, RowCall, rowDefine, rowRecord, rowStart, rowDrop, rowSweep, rowTry, rowTakeBack, onRowCall, Call, callBoot, callRows, callStep, callRun, perform, performAll}
 use Rattle.definition.specs.Answers.{ok}
 use Rattle.laws.specs.Agreement.{super-falls, super-is}
 use Rattle.laws.specs.FieldPlaces.{placeOf}
@@ -35,17 +36,21 @@ use Rattle.laws.specs.Results.{bind-ok, ok-inj}
 use Rattle.laws.specs.Runs.{after, run-keeps-unless}
 use Rattle.laws.specs.Slots.{slots-none}
 use Rattle.laws.specs.Tried.{try-leaves}
-use Rattle.laws.specs.Upward.{below-true}
+use Rattle.laws.specs.Upward.{below-true, below-le}
+use Rattle.laws.specs.Growth.{nth-lt}
 use Rattle.laws.specs.Wrapped.{Ok, ok-at, then}
 use Rattle.layout.specs.Tests.{All}
 use Rattle.layout.specs.Whole.{Whole}
 use Rattle.unbroken.specs.Calls.{step-whole, rows-whole}
 use Rattle.unbroken.specs.HiddenFields.{fieldIn, fieldOf, Resolved, SameField, Put, PutRows, put-rows, getfield-reads, putfield-writes}
-use Rattle.unbroken.specs.Lasting.{FreesRows, Frees}
-use Rattle.unbroken.specs.Resolution.{There, Resolves, resolution-lasts}
+use Rattle.unbroken.specs.Lasting.{UnloadsRows, FreesRows, Frees}
+use Rattle.unbroken.specs.Resolution.{There, Resolves, cut-resolves, resolution-lasts}
 use Rattle.unbroken.specs.Steps.{object-at}
 use Rattle.unbroken.specs.Sweeping.{Turns}
-use Rattle.unbroken.specs.Unbroken.{shown}
+use Rattle.unbroken.specs.Unbroken.{shown, shown-traced}
+use Rattle.unbroken.specs.Cut.{cut-whole}
+use Rattle.unbroken.specs.WholeRows.{nth-there}
+use Rattle.layout.specs.Traced.{EachTurn, Leaves}
 
 -- every object that exists stays as it is, class and every field
 abbrev Stays : Objects → Objects → Type 0
@@ -167,6 +172,11 @@ module _ (t : Tables) (o d n u : ℕ) (v : Value) (h : fieldOf t o d n u ≡ som
 
 -- Calls on rows: they find fields as before, and objects stay
 
+taken-stay : (ls : List Level) (r : Rows) → Ok (takenBack ls r) (λ g. Stays (r .objects) (g .rows .objects))
+unfolding takenBack cutTo
+taken-stay [] r = tt
+taken-stay (l ∷ ls) r = λ o x e. e
+
 rows-stay : (c : RowCall) → (FreesRows c → ⊥) → (r : Rows) → Ok (onRowCall c r) (λ g. Stays (r .objects) (g .rows .objects))
 unfolding defineRows recordRows startRows dropRows started
 rows-stay (rowDefine l bs) h r = then G _ _ (λ _ _. then G _ _ (λ _ _. then G _ _ (λ _ _ o x e. e)))
@@ -187,6 +197,7 @@ rows-stay (rowStart k l n m v) h r = then G _ _ (λ _ _. then G _ _ (λ p q. ok-
 rows-stay (rowDrop k) h r = then (λ (g : Given Reply). Stays (r .objects) (g .rows .objects)) _ _ (λ _ _ o x e. e)
 rows-stay rowSweep h r = absurd (h tt)
 rows-stay (rowTry c n) h r = try-leaves (λ s. Stays (r .objects) (s .objects)) c n r (λ o x e. e)
+rows-stay rowTakeBack h r = taken-stay (r .trace) r
 
 -- a class that declares a field is there, and so is each below it
 place-there : (b : Base) (d n u j : ℕ) → placeOf b d n u ≡ some j → There b d
@@ -215,6 +226,48 @@ later-field b e os qs r s o d n u v h =
     (some-bind _ _ (rw (r .isBelow (x .0 .class) d (below-there b (below-true (superOf b) (super-falls b) (x .0 .class) d under) there) ∙ under) refl)
     (some-bind _ _ (ap (indexOf (slotIs d n u)) (r .fields d there) ∙ z .1) (z .2)))
 
+-- Of a taking back: each object's class is still there, so its fields stand where they stood
+
+front-field : (b e : Base) (os : Objects) → Resolves b e → ((o : ℕ) (x : Object) → existing os o ≡ some x → There b (x .class))
+    → (o d n u : ℕ) (v : Value) → fieldIn e os o d n u ≡ some v → fieldIn b os o d n u ≡ some v
+unfolding fieldIn need
+front-field b e os r classes o d n u v h =
+    let x = bind-some (existing os o) _ h in
+    let y = bind-some (need (below (superOf e) (x .0 .class) d)) _ (x .2) in
+    let z = bind-some (placeOf e d n u) _ (y .2) in
+    let mine = classes o (x .0) (x .1) in
+    let under : below (superOf b) (x .0 .class) d ≡ true = sym (r .isBelow (x .0 .class) d mine) ∙ need-true _ (y .1) in
+    let low : d ≤ x .0 .class = below-le (super-falls b) (below-true (superOf b) (super-falls b) (x .0 .class) d under) in
+    let there : There b d = nth-there (b .classes) d (omega (arith, low, nth-lt (b .classes) (x .0 .class) (mine .0) (mine .1))) in
+    some-bind _ _ (x .1) (some-bind _ _ (rw under refl) (some-bind _ _ (sym (ap (indexOf (slotIs d n u)) (r .fields d there)) ∙ z .1) (z .2)))
+
+taken-field : (t : Tables) (o d n u : ℕ) (v : Value) → fieldOf t o d n u ≡ some v → fieldOf (perform callTakeBack t .tables) o d n u ≡ some v
+unfolding perform
+taken-field t o d n u v h = shown-traced Denied (onRowCall rowTakeBack) (λ _ s. fieldIn (worldOf s .base) (s .objects) o d n u ≡ some v) t (λ r w. rows-whole r w rowTakeBack) (λ _. h)
+    (λ w b g e. ok-at (λ (g : Given Reply). fieldIn (worldOf (g .rows) .base) (g .rows .objects) o d n u ≡ some v) _ (back w (view t .trace) b) g e)
+  where
+    r : Rows
+    r = view t
+
+    mine : (l : Level) → Whole (cutTo l r) → (p : ℕ) (x : Object) → existing (cutTo l r .objects) p ≡ some x → There (worldOf (cutTo l r) .base) (x .class)
+    mine l c p x e =
+        nth-there (worldOf (cutTo l r) .base .classes) (x .class)
+        (omega (arith, object-at _ _ _ (cutTo l r .objects) (c .objects) p x e .class, length-map (cutTo l r .classes) (classAt (cutTo l r .kept))))
+
+    back : Whole r → (ls : List Level) → EachTurn Leaves ls r → Ok (takenBack ls r) (λ g. fieldIn (worldOf (g .rows) .base) (g .rows .objects) o d n u ≡ some v)
+    back w [] b = unfold takenBack in tt
+    back w (l ∷ ls) b = unfold takenBack in
+        front-field (worldOf (cutTo l r) .base) (worldOf r .base) (cutTo l r .objects) (cut-resolves l r (b .0 .1)) (mine l (cut-whole l r (b .0 .1) (b .0 .0) w)) o d n u v (unfold cutTo in h)
+
+unloads-or : (c : RowCall) → (UnloadsRows c → ⊥) ⊎ (c ≡ rowTakeBack)
+unloads-or (rowDefine l bs) = inl (λ i. i)
+unloads-or (rowRecord l n c) = inl (λ i. i)
+unloads-or (rowStart k l n m v) = inl (λ i. i)
+unloads-or (rowDrop k) = inl (λ i. i)
+unloads-or rowSweep = inl (λ i. i)
+unloads-or (rowTry c n) = inl (λ i. i)
+unloads-or rowTakeBack = inr refl
+
 -- Every call
 
 -- the call is a step that writes the field, or a run that has such a step
@@ -226,10 +279,13 @@ WrittenBy (callRun m) t o d n u = (i : ℕ) × (i < m) × Writes (after stepTabl
 
 pub fields-last : (c : Call) → (Frees c → ⊥) → (t : Tables) (o d n u : ℕ) (v : Value) → fieldOf t o d n u ≡ some v → (fieldOf (perform c t .tables) o d n u ≡ some v) ⊎ WrittenBy c t o d n u
 fields-last callBoot f t o d n u v h = absurd (f tt)
-fields-last (callRows c) f t o d n u v h =
-    let s : Stays (view t .objects) (view (perform (callRows c) t .tables) .objects) = (unfold perform in shown Denied (onRowCall c) (λ _ s. Stays (view t .objects) (s .objects)) t (λ r w. rows-whole r w c) (λ _ o x e. e)
-    (λ _ g e. ok-at (λ (g : Given Reply). Stays (view t .objects) (g .rows .objects)) _ (rows-stay c f (view t)) g e)) in
-    inl (later-field _ _ (view t .objects) (view (perform (callRows c) t .tables) .objects) (resolution-lasts (callRows c) (λ z. z) t) s o d n u v h)
+fields-last (callRows c) f t o d n u v h = inl (elim (unloads-or c) [
+  | inr e ↦ rw e (taken-field t o d n u v h)
+  | inl i ↦
+      let s : Stays (view t .objects) (view (perform (callRows c) t .tables) .objects) = (unfold perform in shown Denied (onRowCall c) (λ _ s. Stays (view t .objects) (s .objects)) t (λ r w. rows-whole r w c) (λ _ o x e. e)
+      (λ _ g e. ok-at (λ (g : Given Reply). Stays (view t .objects) (g .rows .objects)) _ (rows-stay c f (view t)) g e)) in
+      later-field _ _ (view t .objects) (view (perform (callRows c) t .tables) .objects) (resolution-lasts (callRows c) i t) s o d n u v h
+])
 fields-last callStep f t o d n u v h = unfold perform in step-field t o d n u v h
 fields-last (callRun m) f t o d n u v h = unfold perform in run-keeps-unless (λ s. fieldOf s o d n u ≡ some v) (λ s. Writes s o d n u) (λ s k. step-field s o d n u v k) m t h
 

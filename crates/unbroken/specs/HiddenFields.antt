@@ -26,7 +26,7 @@ use Rattle.definition.specs.Instructions.{Decoded}
 use Rattle.definition.specs.Machine.{Value, objectValue, Object, Objects, existing, changed, Frame, Progress, Now, past, execute}
 use Rattle.definition.specs.Tables.{Tables, worldOf, sizeOf, framesIn, view}
 use Rattle.definition.specs.Broken.{broken}
-use Rattle.definition.specs.Calls.{stepRefusals, loadDefine, loadRecord, loadRefusals, rowDefine, rowRecord, rowStart, rowDrop, rowSweep, rowTry, rowRefusals, Call, callBoot, callRows, callStep, callRun, refusalsOf, perform, stepTables, turn}
+use Rattle.definition.specs.Calls.{stepRefusals, loadDefine, loadRecord, loadRefusals, rowDefine, rowRecord, rowStart, rowDrop, rowSweep, rowTry, rowTakeBack, rowRefusals, Call, callBoot, callRows, callStep, callRun, refusalsOf, perform, stepTables, turn}
 use Rattle.definition.specs.Answers.{ok, number, numberOf}
 use Rattle.laws.specs.Agreement.{super-falls}
 use Rattle.laws.specs.FieldPlaces.{placeOf, place-slot, places-apart}
@@ -248,6 +248,7 @@ unlisted (callRows (rowDrop k)) = refl
 unlisted (callRows rowSweep) = refl
 unlisted (callRows (rowTry (loadDefine l bs) n)) = refl
 unlisted (callRows (rowTry (loadRecord l m c) n)) = refl
+unlisted (callRows rowTakeBack) = refl
 unlisted callStep = refl
 unlisted (callRun n) = refl
 

@@ -1,4 +1,4 @@
--- What lasts: no call but a boot changes a cache entry, a class's row or a kept byte (`loads-last`); no call but a boot and a sweep ends an object or gives it
+-- What lasts: no call but a boot and a taking back changes a cache entry, a class's row or a kept byte (`loads-last`); no call but a boot and a sweep ends an object or gives it
 -- another class (`objects-last`), and a sweep ends none that is reached (`reached-last`).
 use mathlib.Core.Path.{_≡_, sym, subst}
 use mathlib.Core.Option.{some}
@@ -10,7 +10,7 @@ use Rattle.definition.specs.Classes.{find}
 use Rattle.definition.specs.Machine.{Object, existing}
 use Rattle.definition.specs.Sweeping.{Reached}
 use Rattle.definition.specs.Tables.{Tables, Rows, ClassRow, view}
-use Rattle.definition.specs.Calls.{turn, stepTables, RowCall, rowDefine, rowRecord, rowStart, rowDrop, rowSweep, rowTry, Call, callBoot, callRows, callSweep, callStep, callRun, perform, performAll}
+use Rattle.definition.specs.Calls.{turn, stepTables, RowCall, rowDefine, rowRecord, rowStart, rowDrop, rowSweep, rowTry, rowTakeBack, Call, callBoot, callRows, callSweep, callTakeBack, callStep, callRun, perform, performAll}
 use Rattle.laws.specs.Agreement.{find-more, nth-more}
 use Rattle.laws.specs.Objects.{Numbered, numbered-same, numbered-join}
 use Rattle.laws.specs.Runs.{run-keeps}
@@ -46,13 +46,24 @@ lasts-goes k r s g = record { cache = λ q c h. rw (g .cache) h; classes = λ c 
 one-lasts : (t : Tables) → Lasts (view t) (view (stepTables t .tables))
 one-lasts t = lasts-goes (turn (view t)) (view t) _ (step-leaves t)
 
-lasts-left : (c : RowCall) (r s : Rows) → LeftBy c r s → Lasts r s
-lasts-left (rowDefine l bs) r s a = lasts-appends r s a
-lasts-left (rowRecord l n c) r s a = lasts-appends r s a
-lasts-left (rowStart k l n m v) r s g = lasts-goes k r s g
-lasts-left (rowDrop k) r s g = lasts-goes k r s g
-lasts-left rowSweep r s g = record { cache = λ q c h. rw (g .cache) h; classes = λ c k h. rw (g .classes) h; kept = λ i b h. rw (g .kept) h }
-lasts-left (rowTry c n) r s e = subst (Lasts r) (sym e) (lasts-same r)
+-- the calls on rows that take a load back
+abbrev pub UnloadsRows : RowCall → Type 0
+UnloadsRows (rowDefine l bs) = ⊥
+UnloadsRows (rowRecord l n c) = ⊥
+UnloadsRows (rowStart k l n m v) = ⊥
+UnloadsRows (rowDrop k) = ⊥
+UnloadsRows rowSweep = ⊥
+UnloadsRows (rowTry c n) = ⊥
+UnloadsRows rowTakeBack = Unit {0}
+
+pub lasts-left : (c : RowCall) → (UnloadsRows c → ⊥) → (r s : Rows) → LeftBy c r s → Lasts r s
+lasts-left (rowDefine l bs) i r s a = lasts-appends r s a
+lasts-left (rowRecord l n c) i r s a = lasts-appends r s a
+lasts-left (rowStart k l n m v) i r s g = lasts-goes k r s g
+lasts-left (rowDrop k) i r s g = lasts-goes k r s g
+lasts-left rowSweep i r s g = record { cache = λ q c h. rw (g .cache) h; classes = λ c k h. rw (g .classes) h; kept = λ i b h. rw (g .kept) h }
+lasts-left (rowTry c n) i r s e = subst (Lasts r) (sym e) (lasts-same r)
+lasts-left rowTakeBack i r s a = absurd (i tt)
 
 -- the calls on rows that may free an object
 abbrev pub FreesRows : RowCall → Type 0
@@ -62,6 +73,7 @@ FreesRows (rowStart k l n m v) = ⊥
 FreesRows (rowDrop k) = ⊥
 FreesRows rowSweep = Unit {0}
 FreesRows (rowTry c n) = ⊥
+FreesRows rowTakeBack = ⊥
 
 numbered-left : (c : RowCall) → (FreesRows c → ⊥) → (r s : Rows) → LeftBy c r s → Numbered (r .objects) (s .objects)
 numbered-left (rowDefine l bs) h r s a = rw (a .objects) (numbered-same (r .objects))
@@ -70,6 +82,7 @@ numbered-left (rowStart k l n m v) h r s g = g .objects
 numbered-left (rowDrop k) h r s g = g .objects
 numbered-left rowSweep h r s g = absurd (h tt)
 numbered-left (rowTry c n) h r s e = rw e (numbered-same (r .objects))
+numbered-left rowTakeBack h r s a = rw (sym (a .objects)) (numbered-same (r .objects))
 
 abbrev pub IsBoot : Call → Type 0
 IsBoot callBoot = Unit {0}
@@ -79,7 +92,10 @@ IsBoot (callRun n) = ⊥
 
 -- the calls that may take a load back, and those that may free an object
 abbrev pub Unloads : Call → Type 0
-Unloads c = IsBoot c
+Unloads callBoot = Unit {0}
+Unloads (callRows c) = UnloadsRows c
+Unloads callStep = ⊥
+Unloads (callRun n) = ⊥
 
 abbrev pub Frees : Call → Type 0
 Frees callBoot = Unit {0}
@@ -87,10 +103,14 @@ Frees (callRows c) = FreesRows c
 Frees callStep = ⊥
 Frees (callRun n) = ⊥
 
+-- a taking back changes none of those that it leaves
+pub taken-lasts : (t : Tables) → Lasts (view (perform callTakeBack t .tables)) (view t)
+taken-lasts t = lasts-appends (view (perform callTakeBack t .tables)) (view t) (call-leaves rowTakeBack t)
+
 -- the cache never changes an entry, and accepted files are kept
 pub loads-last : (c : Call) → (Unloads c → ⊥) → (t : Tables) → Lasts (view t) (view (perform c t .tables))
 loads-last callBoot h t = absurd (h tt)
-loads-last (callRows c) h t = lasts-left c (view t) _ (call-leaves c t)
+loads-last (callRows c) h t = lasts-left c h (view t) _ (call-leaves c t)
 loads-last callStep h t = unfold perform in one-lasts t
 loads-last (callRun n) h t = unfold perform in run-keeps (λ s. Lasts (view t) (view s)) (λ s l. lasts-join l (one-lasts s)) n t (lasts-same (view t))
 

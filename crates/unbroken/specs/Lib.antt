@@ -5,6 +5,9 @@ pub mod Progress
 pub mod Accepted
 pub mod WholeRows
 pub mod Swept
+pub mod Cut
+pub mod CutFits
+pub mod Traces
 pub mod Calls
 pub mod Refusing
 pub mod RefusingSteps
@@ -25,5 +28,7 @@ pub mod Waiting
 pub mod Rates
 pub mod HiddenFields
 pub mod FieldsLast
+pub mod TakenBack
+pub mod History
 pub mod Share
 pub mod Branches

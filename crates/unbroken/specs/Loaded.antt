@@ -6,7 +6,7 @@ use mathlib.Core.List.{List, [], _∷_, _++_}
 use mathlib.Core.Logic.{_⊎_, inl, inr}
 use Prim.Native.Nat.{ℕ}
 use native.Mathlib.Omega.{arith}
-use lib.ListN.{length, getElem?, length-map}
+use lib.ListN.{length, getElem?, take, length-map}
 use borrow.Author.Tests.{ltb-true}
 use Rattle.definition.specs.declared.Reply.{Reply}
 use Rattle.definition.specs.declared.Reply.the-variants.{Accepted, Defined, Denied}
@@ -16,14 +16,16 @@ use Rattle.definition.specs.Constraints.{World}
 use Rattle.definition.specs.File.{File, readFile, classOf}
 use Rattle.definition.specs.Verifier.{Note, notesOf}
 use Rattle.definition.specs.Loading.{newSubtypes, overrideTies}
-use Rattle.definition.specs.Tables.{Tables, Rows, withCache, classRow, entry, worldOf, view, classAt}
-use Rattle.definition.specs.Calls.{Given, addFile, addEntry, defineRows, recordRows, callDefine, callRecord, perform, rowDefine, rowRecord}
+use Rattle.definition.specs.Tables.{Tables, Rows, levelOf, withCache, classRow, entry, worldOf, view, classAt}
+use Rattle.definition.specs.Calls.{Given, remembered, addFile, addEntry, defineRows, recordRows, callDefine, callRecord, perform, rowDefine, rowRecord}
 use Rattle.laws.specs.Options.{nth-last}
 use Rattle.laws.specs.Results.{need-ok, take-ok}
 use Rattle.laws.specs.Stable.{find-last}
 use Rattle.laws.specs.Wrapped.{Ok, ok-at, then}
 use Rattle.layout.specs.Whole.{Whole}
 use Rattle.unbroken.specs.Accepted.{Entered, Stood, recorded-is, defined-is}
+use Rattle.layout.specs.View.{entry-added}
+use Rattle.unbroken.specs.Traces.{entry-there}
 use Rattle.unbroken.specs.Calls.{world-defined, rows-whole}
 use Rattle.unbroken.specs.Unbroken.{shown}
 
@@ -41,6 +43,7 @@ pub record DefinedAs (l : ℕ) (bs : List ℕ) (c : ℕ) (r s : Rows) : Type 0 w
   pub notes : List Note
   pub verified : notesOf (classOf l file) (file .methods) ≡ some notes
   pub subtypes : s .subtypes ≡ r .subtypes ++ newSubtypes (r .subtypes) l notes
+  pub trace : s .trace ≡ take 32 (levelOf r ∷ r .trace)
   pub super : ℕ
   pub found : find (r .cache) (at l (file .super)) ≡ some super
   pub ties : s .ties ≡ r .ties ++ overrideTies (worldOf r .base) l super (r .ties) (file .methods)
@@ -65,6 +68,7 @@ define-as l bs r w = then Q _ _ (λ _ a. then Q _ _ (λ f rf. then Q _ _ (λ v e
       notes = d .notes;
       verified = d .verified;
       subtypes = sym (ap (λ (z : World). z .subtypes) (d .is));
+      trace = refl;
       super = d .super;
       found = d .cached;
       ties = sym (ap (λ (z : World). z .ties) (d .is));
@@ -79,19 +83,19 @@ define-answers l bs t c = shown Denied (defineRows l bs) (λ a s. a ≡ Defined 
     (λ w e. let z : _≡_ {A = ℕ} 0 1 = cc in absurd (omega arith))
     (λ w g e. ok-at (λ (g : Given Reply). (c : ℕ) → g .answer ≡ Defined c → DefinedAs l bs c (view t) (g .rows)) _ (define-as l bs (view t) w) g e c)
 
--- the request is recorded as class c: it was there, and nothing changed; or it wasn't, and exactly one entry was added to the cache
+-- the request is recorded as class c: it was there, and nothing changed; or it wasn't, exactly one entry was added to the cache, and the load is remembered
 pub record RecordedAs (l n c : ℕ) (r s : Rows) : Type 0 where
   pub cached : find (s .cache) (at l n) ≡ some c
-  pub adds : ((find (r .cache) (at l n) ≡ some c) × (s ≡ r)) ⊎ ((find (r .cache) (at l n) ≡ none) × (s ≡ withCache (r .cache ++ (entry l n c ∷ [])) r))
+  pub adds : ((find (r .cache) (at l n) ≡ some c) × (s ≡ r)) ⊎ ((find (r .cache) (at l n) ≡ none) × (s ≡ remembered r (withCache (r .cache ++ (entry l n c ∷ [])) r)))
 
 record-as : (l n c : ℕ) (r : Rows) → Ok (recordRows l n c r) (λ g. RecordedAs l n c r (g .rows))
 unfolding recordRows
 record-as l n c r = then (λ (g : Given Reply). RecordedAs l n c r (g .rows)) _ _ (λ v e. go v (recorded-is l n c (worldOf r) v e))
   where
     go : (v : World) → Stood l n c (worldOf r) v ⊎ Entered l n c (worldOf r) v → RecordedAs l n c r (addEntry r v)
-    go v (inl x) = subst (λ (z : World). RecordedAs l n c r (addEntry r z)) (x .is) (record { cached = x .cached; adds = inl (x .cached, refl) })
+    go v (inl x) = subst (λ (z : World). RecordedAs l n c r (addEntry r z)) (x .is) (record { cached = x .cached; adds = inl (x .cached, entry-there r) })
     go v (inr x) = subst (λ (z : World). RecordedAs l n c r (addEntry r z)) (x .is)
-        (record { cached = find-last (r .cache) (entry l n c) (x .fresh); adds = inr (x .fresh, refl) })
+        (record { cached = find-last (r .cache) (entry l n c) (x .fresh); adds = inr (x .fresh, entry-added r (at l n) c) })
 
 pub record-answers : (l n c : ℕ) (t : Tables) → perform (callRecord l n c) t .answer ≡ Accepted → RecordedAs l n c (view t) (view (perform (callRecord l n c) t .tables))
 unfolding perform

@@ -5,7 +5,7 @@ use mathlib.Core.Bool.{true, false}
 use mathlib.Core.List.{List, [], _∷_, _++_, append-nil, append-assoc}
 use Prim.Native.Nat.{ℕ, _+_, _≤_, _<_}
 use native.Mathlib.Omega.{arith}
-use lib.ListN.{length, length-append}
+use lib.ListN.{length, drop, length-append, take-append-drop}
 use Rattle.definition.specs.declared.Answer.{Answer}
 use Rattle.definition.specs.declared.Answer.the-variants.{Refused}
 use Rattle.definition.specs.declared.Reply.{Reply}
@@ -13,9 +13,9 @@ use Rattle.definition.specs.declared.Reply.the-variants.{Denied}
 use Rattle.definition.specs.Constraints.{Tie, Subtype, World}
 use Rattle.definition.specs.Loading.{started}
 use Rattle.definition.specs.Machine.{Objects, Exists, Frame, Progress}
-use Rattle.definition.specs.Tables.{Tables, shaped, rowNumbers, Rows, framesIn, worldOf, view}
+use Rattle.definition.specs.Tables.{Tables, shaped, rowNumbers, Level, Rows, cutTo, framesIn, worldOf, view}
 use Rattle.definition.specs.Broken.{broken}
-use Rattle.definition.specs.Calls.{Given, bootRows, boot, numbersFrom, numberedOn, progressed, defineRows, recordRows, startRows, dropRows, sweepRows, stepTask, stepOn, stepRows, RowCall, rowDefine, rowRecord, rowStart, rowDrop, rowSweep, rowTry, onRowCall, callRows, stepTables, run, perform}
+use Rattle.definition.specs.Calls.{Given, closed, takenBack, bootRows, boot, numbersFrom, numberedOn, progressed, defineRows, recordRows, startRows, dropRows, sweepRows, stepTask, stepOn, stepRows, RowCall, rowDefine, rowRecord, rowStart, rowDrop, rowSweep, rowTry, rowTakeBack, onRowCall, callRows, stepTables, run, perform}
 use Rattle.laws.specs.Runs.{run-keeps}
 use Rattle.laws.specs.Wrapped.{Ok, ok-at, then}
 use Rattle.laws.specs.Tried.{try-leaves}
@@ -135,6 +135,9 @@ progress-posts k r w o m = record {
   numbers = ap (λ (z : List Tie). numberedOn z (r .subtypes) r) (m .behind) ∙ ties-numbered-on r (m .fresh);
 }
 
+posts-closed : (r s : Rows) → PostsTies r s → PostsTies r (closed s)
+posts-closed r s p = record { newTies = p .newTies; ties = p .ties; subtypes = p .subtypes; numbers = p .numbers }
+
 step-posts : (r : Rows) → Whole r → Ok (stepRows r) (λ g. PostsTies r (g .rows))
 unfolding stepRows
 step-posts r w = go (r .quote) (r .report) (w .quote) (w .report) (w .limits .quote) (w .limits .report)
@@ -144,7 +147,7 @@ step-posts r w = go (r .quote) (r .report) (w .quote) (w .report) (w .limits .qu
 
     task : (k : ℕ) → k < 2 → (f : Frame) (fs : List Frame) → All (Framed (N r w) (Exists (r .objects))) (f ∷ fs) → length (f ∷ fs) ≤ 32 → Ok (stepTask k (worldOf r) f fs r) P
     task k two f fs a c = unfold stepTask in
-        then P _ _ (λ o e. progress-posts k r w o (ok-at _ _ (step-moves (W r w) (N r w) (r .objects) (ready r w) k two f fs a c) o e))
+        then P _ _ (λ o e. posts-closed r _ (progress-posts k r w o (ok-at _ _ (step-moves (W r w) (N r w) (r .objects) (ready r w) k two f fs a c) o e)))
 
     go : (q p : List Frame) → All (Framed (N r w) (Exists (r .objects))) q → All (Framed (N r w) (Exists (r .objects))) p → length q ≤ 32 → length p ≤ 32 → Ok (stepOn q p (worldOf r) r) P
     go (f ∷ fs) p a b c d = unfold stepOn in task 0 (omega arith) f fs a c
@@ -156,6 +159,22 @@ pub boot-numbers : (t : Tables) → shaped t ≡ true → view (boot t .tables) 
 unfolding boot
 boot-numbers t h = rw (h, boot) (ap (λ (r : Rows). r .numbers) (view-put bootRows t (shaped-true t h) boot-whole))
 
+-- A taking back leaves the first of them
+
+pub record FirstNumbers (r s : Rows) : Type 0 where
+  pub behindTies : List ℕ
+  pub behindSubtypes : List ℕ
+  pub is : r .numbers ≡ rowNumbers (s .numbers .ties ++ behindTies) (s .numbers .subtypes ++ behindSubtypes)
+
+taken-numbers : (ls : List Level) (r : Rows) → Ok (takenBack ls r) (λ g. FirstNumbers r (g .rows))
+unfolding takenBack cutTo
+taken-numbers [] r = tt
+taken-numbers (l ∷ ls) r = record {
+  behindTies = drop (l .ties) (r .numbers .ties);
+  behindSubtypes = drop (l .subtypes) (r .numbers .subtypes);
+  is = λ i. rowNumbers (sym (take-append-drop (l .ties) (r .numbers .ties)) i) (sym (take-append-drop (l .subtypes) (r .numbers .subtypes)) i);
+}
+
 -- Every call on rows, and a step, whatever the tables hold
 
 abbrev pub NumbersBy : RowCall → Rows → Rows → Type 0
@@ -165,6 +184,7 @@ NumbersBy (rowStart k l n m v) r s = s .numbers ≡ r .numbers
 NumbersBy (rowDrop k) r s = s .numbers ≡ r .numbers
 NumbersBy rowSweep r s = s .numbers ≡ r .numbers
 NumbersBy (rowTry c n) r s = s .numbers ≡ r .numbers
+NumbersBy rowTakeBack r s = FirstNumbers r s
 
 numbers-same : (c : RowCall) (r : Rows) → NumbersBy c r r
 numbers-same (rowDefine l bs) r = posts-none r
@@ -173,6 +193,7 @@ numbers-same (rowStart k l n m v) r = refl
 numbers-same (rowDrop k) r = refl
 numbers-same rowSweep r = refl
 numbers-same (rowTry c n) r = refl
+numbers-same rowTakeBack r = record { behindTies = []; behindSubtypes = []; is = λ i. rowNumbers (sym (append-nil (r .numbers .ties)) i) (sym (append-nil (r .numbers .subtypes)) i) }
 
 pub rows-numbers : (c : RowCall) (r : Rows) → Ok (onRowCall c r) (λ g. NumbersBy c r (g .rows))
 rows-numbers (rowDefine l bs) r = define-posts l bs r
@@ -181,6 +202,7 @@ rows-numbers (rowStart k l n m v) r = start-numbers k l n m v r
 rows-numbers (rowDrop k) r = drop-numbers k r
 rows-numbers rowSweep r = sweep-numbers r
 rows-numbers (rowTry c n) r = try-leaves (λ s. s .numbers ≡ r .numbers) c n r refl
+rows-numbers rowTakeBack r = taken-numbers (r .trace) r
 
 pub call-numbers : (c : RowCall) (t : Tables) → NumbersBy c (view t) (view (perform (callRows c) t .tables))
 unfolding perform

@@ -17,11 +17,12 @@ use Rattle.definition.specs.Broken.{broken}
 use Rattle.definition.specs.Calls.{Given, bootRows, stepRows, Done, done, wrap, boot, stepTables, goOn, runFrom, run, Call, callBoot, callStep, callRun, perform, performAll, onRowCall, callRows}
 use Rattle.laws.specs.Wrapped.{wrapped, ok-at}
 use Rattle.layout.specs.Whole.{Whole}
+use Rattle.layout.specs.Traced.{Traced}
 use Rattle.layout.specs.View.{put-view}
 use Rattle.layout.specs.Unbroken.{true-whole, broken-false}
 use Rattle.layout.specs.ReadBack.{Lengths, shaped-true, true-shaped, view-put}
-use Rattle.unbroken.specs.Calls.{step-whole, rows-whole, boot-whole}
-use Rattle.unbroken.specs.Unbroken.{Keeps}
+use Rattle.unbroken.specs.Calls.{step-whole, rows-whole, boot-whole, boot-traced}
+use Rattle.unbroken.specs.Unbroken.{Unhurt, Keeps}
 use Rattle.definition.specs.Computing.OnRows.{givenRows, settle, onRows, goOnRows, runRows, performRows, performAllRows}
 
 -- Tables that show rows
@@ -39,14 +40,14 @@ module _ {A : Type 0} (deny : Refusal → A) (f : Rows → Result (Given A)) (k 
   same-wrap t r s = subst (λ (x : Rows). Same (wrap deny f t .answer) (wrap deny f t .tables) (onRows deny f x)) (s .rows)
       (wrapped deny f t (λ a z. Same a z (onRows deny f (view t))) (λ e. absurd (false≢true (sym (s .unbroken) ∙ e)))
       (λ w e. rw (e, onRows) (refl, record { unbroken = s .unbroken; rows = refl }))
-      (λ _ g e. let h = ok-at (λ g. Whole (g .rows)) _ (k (view t) (u .1)) g e in rw (e, onRows) (refl, record { unbroken = true-whole (g .rows) t (u .0) h; rows = view-put (g .rows) t (u .0) h })))
+      (λ _ g e. let h = ok-at Unhurt _ (k (view t) (u .1) (u .2)) g e in rw (e, onRows) (refl, record { unbroken = true-whole (g .rows) t (u .0) (h .0) (h .1); rows = view-put (g .rows) t (u .0) (h .0) })))
     where
-      u : Lengths t × Whole (view t)
+      u : Lengths t × Whole (view t) × Traced (view t)
       u = broken-false t (s .unbroken)
 
 pub same-boot : (t : Tables) → shaped t ≡ true → Same (boot t .answer) (boot t .tables) (givenRows Accepted bootRows)
 unfolding boot
-same-boot t h = rw (h, boot) (refl, record { unbroken = true-whole bootRows t (shaped-true t h) boot-whole; rows = view-put bootRows t (shaped-true t h) boot-whole })
+same-boot t h = rw (h, boot) (refl, record { unbroken = true-whole bootRows t (shaped-true t h) boot-whole boot-traced; rows = view-put bootRows t (shaped-true t h) boot-whole })
 
 -- boot accepts only the published lengths
 pub accepted-shaped : (t : Tables) → boot t .answer ≡ Accepted → shaped t ≡ true

@@ -1,11 +1,12 @@
 -- What each call leaves, part by part. A load appends to classes, kept files, cache and constraints, and leaves objects and frames as they are. A start, a
 -- drop and a step leave classes, kept files, cache, subtype constraints and the other task's frames as they are, and keep each object's number, class and task. A
--- sweep leaves all but objects, and those that are reached. An idle step leaves every table.
+-- sweep leaves all but objects, and those that are reached. A taking back leaves what a load appends to. An idle step leaves every table.
 use mathlib.Core.Path.{_≡_, refl, sym, ap, _∙_}
 use mathlib.Core.Option.{some}
 use mathlib.Core.List.{List, [], _∷_, _++_}
 use mathlib.Core.Logic.{_⊎_, inl, inr}
 use Prim.Native.Nat.{ℕ, zero, suc}
+use lib.ListN.{take, drop, take-append-drop}
 use Rattle.definition.specs.declared.Answer.{Answer}
 use Rattle.definition.specs.declared.Answer.the-variants.{Idle, Refused}
 use Rattle.definition.specs.declared.Reply.{Reply}
@@ -15,8 +16,8 @@ use Rattle.definition.specs.Constraints.{World}
 use Rattle.definition.specs.Loading.{started}
 use Rattle.definition.specs.Machine.{Object, Objects, existing, Exists, Frame, Progress, newObject}
 use Rattle.definition.specs.Sweeping.{Reached, reached}
-use Rattle.definition.specs.Tables.{Tables, Rows, ofTask, framesIn, withFrames, worldOf, view, put}
-use Rattle.definition.specs.Calls.{Given, progressed, defineRows, recordRows, startRows, dropRows, sweepRows, stepTask, stepOn, stepRows, turnOf, turn, RowCall, rowDefine, rowRecord, rowStart, rowDrop, rowSweep, rowTry, onRowCall, callRows, stepTables, perform}
+use Rattle.definition.specs.Tables.{Tables, Level, Rows, ofTask, framesIn, withFrames, withTrace, cutTo, worldOf, view, put}
+use Rattle.definition.specs.Calls.{Given, closed, progressed, defineRows, recordRows, startRows, dropRows, sweepRows, takenBack, stepTask, stepOn, stepRows, turnOf, turn, RowCall, rowDefine, rowRecord, rowStart, rowDrop, rowSweep, rowTry, rowTakeBack, onRowCall, callRows, stepTables, perform}
 use Rattle.laws.specs.Objects.{Numbered, numbered-same, numbered-made}
 use Rattle.laws.specs.Owners.{Leaves, makerOf, maker-swept}
 use Rattle.laws.specs.Results.{ok-inj}
@@ -127,6 +128,9 @@ goes-dropped k r = record { classes = refl; kept = refl; cache = refl; subtypes 
     others zero = refl
     others (suc k) = refl
 
+goes-closed : (k : ℕ) (r s : Rows) → Goes k r s → Goes k r (closed s)
+goes-closed k r s g = record { classes = g .classes; kept = g .kept; cache = g .cache; subtypes = g .subtypes; objects = g .objects; owners = g .owners; others = g .others }
+
 started-leaves : (k l n m v : ℕ) (w : World) (os : Objects) (fs : List Frame) → Ok (started k l n m v w os fs) (λ o. Numbered os (o .objects) × Leaves k os (o .objects))
 unfolding started
 started-leaves k l n m v w os fs = then N _ _ (λ _ _. then N _ _ (λ _ _. then N _ _ (λ c _. then N _ _ (λ _ _. then N _ _ (λ _ _. then N _ _ (λ _ _. (numbered-made k (newObject (w .base) c) os, inr (_, refl))))))))
@@ -139,14 +143,14 @@ unfolding startRows
 start-goes k l n m v r =
     then G _ _ (λ _ _. then G _ _ (λ o e.
     let h = ok-at (λ o. Numbered (r .objects) (o .objects) × Leaves k (r .objects) (o .objects)) _ (started-leaves k l n m v (worldOf r) (r .objects) (framesIn k r)) o e in
-    goes-progressed k r o (h .0) (h .1)))
+    goes-closed k r _ (goes-progressed k r o (h .0) (h .1))))
   where
     G : Given Reply → Type 0
     G g = Goes k r (g .rows)
 
 drop-goes : (k : ℕ) (r : Rows) → Ok (dropRows k r) (λ g. Goes k r (g .rows))
 unfolding dropRows
-drop-goes k r = then (λ (g : Given Reply). Goes k r (g .rows)) _ _ (λ _ _. goes-dropped k r)
+drop-goes k r = then (λ (g : Given Reply). Goes k r (g .rows)) _ _ (λ _ _. goes-closed k r _ (goes-dropped k r))
 
 -- a step goes on with the task whose turn it is
 pub step-goes : (r : Rows) → Ok (stepRows r) (λ g. Goes (turn r) r (g .rows))
@@ -156,7 +160,7 @@ step-goes r = go (r .quote) (r .report)
     task : (k : ℕ) (f : Frame) (fs : List Frame) → Ok (stepTask k (worldOf r) f fs r) (λ g. Goes k r (g .rows))
     task k f fs = unfold stepTask in then (λ (g : Given Answer). Goes k r (g .rows)) _ _ (λ o e.
         let h = ok-at (Advances (Loops (worldOf r) f) k (r .objects) (f ∷ fs)) _ (step-advances k (worldOf r) (r .objects) f fs) o e in
-        goes-progressed k r o (h .objects) (h .owners))
+        goes-closed k r _ (goes-progressed k r o (h .objects) (h .owners)))
 
     go : (q p : List Frame) → Ok (stepOn q p (worldOf r) r) (λ g. Goes (turnOf q) r (g .rows))
     go (f ∷ fs) p = unfold stepOn turnOf in task 0 f fs
@@ -206,6 +210,29 @@ sweep-sweeps r = record {
   makers = maker-swept (reached (r .objects) (r .quote ++ r .report)) 0 (r .objects);
 }
 
+-- A taking back leaves the first rows of what a load appends to
+
+front : {A : Type 0} (n : ℕ) (xs : List A) → Longer (take n xs) xs
+front n xs = record { new = drop n xs; is = sym (take-append-drop n xs) }
+
+cut-appends : (l : Level) (ls : List Level) (r : Rows) → Appends (withTrace ls (cutTo l r)) r
+unfolding cutTo
+cut-appends l ls r = record {
+  classes = front (l .classes) (r .classes);
+  kept = front (l .kept) (r .kept);
+  cache = front (l .cache) (r .cache);
+  ties = front (l .ties) (r .ties);
+  subtypes = front (l .subtypes) (r .subtypes);
+  objects = refl;
+  quote = refl;
+  report = refl;
+}
+
+taken-appends : (ls : List Level) (r : Rows) → Ok (takenBack ls r) (λ g. Appends (g .rows) r)
+unfolding takenBack
+taken-appends [] r = tt
+taken-appends (l ∷ ls) r = cut-appends l ls r
+
 -- Every call on rows
 
 abbrev pub LeftBy : RowCall → Rows → Rows → Type 0
@@ -215,6 +242,7 @@ LeftBy (rowStart k l n m v) r s = Goes k r s
 LeftBy (rowDrop k) r s = Goes k r s
 LeftBy rowSweep r s = Sweeps r s
 LeftBy (rowTry c n) r s = s ≡ r
+LeftBy rowTakeBack r s = Appends s r
 
 left-same : (c : RowCall) (r : Rows) → LeftBy c r r
 left-same (rowDefine l bs) r = appends-same r
@@ -223,6 +251,7 @@ left-same (rowStart k l n m v) r = goes-same k r
 left-same (rowDrop k) r = goes-same k r
 left-same rowSweep r = sweeps-same r
 left-same (rowTry c n) r = refl
+left-same rowTakeBack r = appends-same r
 
 pub rows-left : (c : RowCall) (r : Rows) → Ok (onRowCall c r) (λ g. LeftBy c r (g .rows))
 rows-left (rowDefine l bs) r = define-appends l bs r
@@ -231,6 +260,7 @@ rows-left (rowStart k l n m v) r = start-goes k l n m v r
 rows-left (rowDrop k) r = drop-goes k r
 rows-left rowSweep r = sweep-sweeps r
 rows-left (rowTry c n) r = try-leaves (λ s. s ≡ r) c n r refl
+rows-left rowTakeBack r = taken-appends (r .trace) r
 
 -- On tables, whatever they hold
 

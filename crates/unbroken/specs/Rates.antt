@@ -23,7 +23,7 @@ use Rattle.definition.specs.Constraints.{World}
 use Rattle.definition.specs.Machine.{Value, emptyValue, intValue, nullValue, objectValue, unlistedValue, Objects, Frame, Progress, Now, now, past, compute, execute, step}
 use Rattle.definition.specs.Tables.{Tables, worldOf, framesIn, view}
 use Rattle.definition.specs.Broken.{broken}
-use Rattle.definition.specs.Calls.{Given, Done, callStep, perform, carried, wrap, answerOf, progressed, stepTask, stepOn, stepRows, stepTables, turn, turnOf}
+use Rattle.definition.specs.Calls.{Given, Done, callStep, perform, carried, wrap, answerOf, closed, progressed, stepTask, stepOn, stepRows, stepTables, turn, turnOf}
 use Rattle.laws.specs.Refusals.{running}
 use Rattle.laws.specs.Refused.{step-refused}
 use Rattle.laws.specs.Rates.{computes-on}
@@ -181,7 +181,7 @@ module _ (t : Tables) (h : broken t ≡ false) (f : Frame) (fs : List Frame) (n 
     abbrev gone : Progress
     gone = record { world = worldOf (view t); objects = view t .objects; frames = past f (n .at) (intValue m ∷ vs) (f .locals) ∷ fs; result = none }
 
-    operator-rows : stepRows (view t) ≡ ok (record { answer = Ran (turn (view t)); rows = progressed (turn (view t)) (view t) gone })
+    operator-rows : stepRows (view t) ≡ ok (record { answer = Ran (turn (view t)); rows = closed (progressed (turn (view t)) (view t) gone) })
     unfolding stepRows stepOn turn turnOf
     operator-rows = go (view t .quote) (view t .report) (u .frames)
       where
@@ -190,10 +190,10 @@ module _ (t : Tables) (h : broken t ≡ false) (f : Frame) (fs : List Frame) (n 
             (ap (λ (x : Instruction). execute j (worldOf (view t)) (view t .objects) f fs (n .theClass) (n .at) x) i
             ∙ computes-on j (worldOf (view t)) (view t .objects) f fs (n .theClass) (n .at) o a b vs e ∙ rw c refl)
 
-        one : (j : ℕ) → stepTask j (worldOf (view t)) f fs (view t) ≡ ok (record { answer = Ran j; rows = progressed j (view t) gone })
+        one : (j : ℕ) → stepTask j (worldOf (view t)) f fs (view t) ≡ ok (record { answer = Ran j; rows = closed (progressed j (view t) gone) })
         one j = unfold stepTask answerOf _>>=_ in rw (did j) refl
 
-        go : (q p : List Frame) → running q p ≡ f ∷ fs → stepOn q p (worldOf (view t)) (view t) ≡ ok (record { answer = Ran (turnOf q); rows = progressed (turnOf q) (view t) gone })
+        go : (q p : List Frame) → running q p ≡ f ∷ fs → stepOn q p (worldOf (view t)) (view t) ≡ ok (record { answer = Ran (turnOf q); rows = closed (progressed (turnOf q) (view t) gone) })
         go (g ∷ gs) p z = let x : g ≡ f = cc in let y : gs ≡ fs = cc in rw (x, y) (one 0)
         go [] (g ∷ gs) z = let x : g ≡ f = cc in let y : gs ≡ fs = cc in rw (x, y) (one 1)
         go [] [] z = absurd (let l : length {A = Frame} [] ≡ length (f ∷ fs) = ap length z in omega arith)

@@ -16,6 +16,7 @@ use Rattle.laws.specs.Results.{bind-ok, ok-inj}
 use Rattle.laws.specs.Wrapped.{wrapped, wrap-carried}
 use Rattle.layout.specs.View.{put-view}
 use lib.ListN.{getElem?}
+use Rattle.unbroken.specs.Traces.{entry-there}
 use borrow.Author.Tests.{lt-ltb, le-leb, eq-eqb}
 use Rattle.definition.specs.Broken.{broken}
 
@@ -34,7 +35,7 @@ unfolding perform recordRows
 record-there l n c d t h = wrapped Denied (recordRows l n c) t (λ _ z. z ≡ t) (λ _. refl) (λ _ _. refl) (λ _ g e.
     let a = bind-ok _ _ e in
     let z : addEntry (view t) (a .0) ≡ g .rows = ap (λ (x : Given Reply). x .rows) (ok-inj (a .2)) in
-    ap (λ (r : Rows). put r t) (sym z ∙ ap (addEntry (view t)) (there-same l n c d (worldOf (view t)) (a .0) h (a .1))) ∙ put-view t)
+    ap (λ (r : Rows). put r t) (sym z ∙ (ap (addEntry (view t)) (there-same l n c d (worldOf (view t)) (a .0) h (a .1)) ∙ entry-there (view t))) ∙ put-view t)
 
 -- and it is accepted, where the store isn't broken and the class is there by that name
 

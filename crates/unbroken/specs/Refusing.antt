@@ -20,10 +20,10 @@ use Rattle.definition.specs.Machine.{roomless, shareUsed}
 use Rattle.definition.specs.Loading.{withEntry, define, recorded, started}
 use Rattle.definition.specs.Verifier.{unmapped, notesOf}
 use Rattle.definition.specs.File.{File, readFile, classOf}
-use Rattle.definition.specs.Tables.{Rows, worldOf, framesIn}
-use Rattle.definition.specs.Calls.{defineRows, recordRows, startRows, dropRows, sweepRows, RowCall, rowDefine, rowRecord, rowStart, rowDrop, rowSweep, rowTry, onRowCall, Given, Load, loadDefine, loadRecord, triedWith, tryRows}
+use Rattle.definition.specs.Tables.{Level, Rows, worldOf, framesIn}
+use Rattle.definition.specs.Calls.{defineRows, recordRows, startRows, dropRows, sweepRows, takenBack, RowCall, rowDefine, rowRecord, rowStart, rowDrop, rowSweep, rowTry, rowTakeBack, onRowCall, Given, Load, loadDefine, loadRecord, triedWith, tryRows}
 use Rattle.definition.specs.Maybe as Maybe
-use Rattle.laws.specs.Causes.{Cause, cause, first, words, secondly, loadCauses, isSomeAnd, definePasses, defineClashes, defineCauses, recordCauses, startCauses, rowCauses}
+use Rattle.laws.specs.Causes.{isEmpty, Cause, cause, first, words, secondly, loadCauses, isSomeAnd, definePasses, defineClashes, defineCauses, recordCauses, startCauses, rowCauses}
 
 -- the number of a result
 unfoldable pub numberIn : {A : Type 0} → Result A → ℕ
@@ -167,6 +167,11 @@ module _ (r : Rows) where
   try-first (loadDefine l bs) n = number-tried n r (defineRows l bs r) _ _ (define-first l bs) refl
   try-first (loadRecord l x c) n = number-tried n r (recordRows l x c r) _ _ (record-first l x c) refl
 
+  back-first : (ls : List Level) → numberIn (takenBack ls r) ≡ first (cause 19 (isEmpty ls) ∷ [])
+  unfolding takenBack first number numberIn
+  back-first [] = refl
+  back-first (l ∷ ls) = refl
+
   pub rows-first : (c : RowCall) → numberIn (onRowCall c r) ≡ first (rowCauses c r)
   unfolding rowCauses
   rows-first (rowDefine l bs) = define-first l bs
@@ -175,3 +180,4 @@ module _ (r : Rows) where
   rows-first (rowDrop k) = drop-first k
   rows-first rowSweep = unfold sweepRows first in number-ok _
   rows-first (rowTry c n) = try-first c n
+  rows-first rowTakeBack = back-first (r .trace)

@@ -10,6 +10,7 @@ use borrow.Author.Tests.{ltb-true}
 use Rattle.definition.specs.declared.Signature.{Signature}
 use Rattle.definition.specs.declared.Refusal.{Refusal}
 use Rattle.definition.specs.declared.Answer.the-variants.{Refused}
+use Rattle.definition.specs.declared.Reply.{Reply}
 use Rattle.definition.specs.declared.Reply.the-variants.{Denied}
 use Rattle.definition.specs.Requests.{Request}
 use Rattle.definition.specs.Superclasses.{nearest, below}
@@ -17,21 +18,23 @@ use Rattle.definition.specs.Answers.{Result}
 use Rattle.definition.specs.Classes.{Base, Class, find, superOf, loaderOf, slots, hasField, selected}
 use Rattle.definition.specs.Constraints.{World}
 use Rattle.definition.specs.Machine.{Frame, Progress}
-use Rattle.definition.specs.Tables.{Tables, Rows, worldOf, view}
-use Rattle.definition.specs.Calls.{Given, progressed, defineRows, recordRows, startRows, dropRows, sweepRows, stepTask, stepOn, stepRows, wrap, stepTables, Call, callBoot, callStep, callRun, perform, performAll, RowCall, rowDefine, rowRecord, rowStart, rowDrop, rowSweep, rowTry, onRowCall, callRows}
+use Rattle.definition.specs.Tables.{Tables, Level, Rows, cutTo, worldOf, view}
+use Rattle.definition.specs.Calls.{Given, takenBack, callTakeBack, progressed, defineRows, recordRows, startRows, dropRows, sweepRows, stepTask, stepOn, stepRows, wrap, stepTables, Call, callBoot, callStep, callRun, perform, performAll, RowCall, rowDefine, rowRecord, rowStart, rowDrop, rowSweep, rowTry, rowTakeBack, onRowCall, callRows}
 use Rattle.laws.specs.Growth.{Grows, grows-class, grows-entry}
 use Rattle.laws.specs.Results.{need-ok, take-ok}
 use Rattle.laws.specs.Runs.{run-keeps}
-use Rattle.laws.specs.Stable.{super-stable, below-stable, field-stable, selected-stable, loader-stable, slots-stable}
+use Rattle.laws.specs.Stable.{Rooted, super-stable, below-stable, field-stable, selected-stable, loader-stable, slots-stable}
 use Rattle.laws.specs.Wrapped.{Ok, ok-at, then}
 use Rattle.laws.specs.Tried.{try-leaves}
 use Rattle.layout.specs.Tests.{All}
-use Rattle.layout.specs.Whole.{Whole}
+use Rattle.layout.specs.Whole.{Sound, Whole}
+use Rattle.layout.specs.Traced.{EachTurn, Leaves}
 use Rattle.unbroken.specs.Accepted.{Entered, Stood, recorded-is, defined-is}
 use Rattle.unbroken.specs.Calls.{world-recorded, world-defined, step-whole, rows-whole}
-use Rattle.unbroken.specs.WholeRows.{ready}
-use Rattle.unbroken.specs.Unbroken.{Keeps, shown}
-use Rattle.unbroken.specs.Lasting.{Unloads}
+use Rattle.unbroken.specs.WholeRows.{ready, sound-rooted}
+use Rattle.unbroken.specs.Cut.{cut-grows}
+use Rattle.unbroken.specs.Unbroken.{Keeps, shown, shown-traced}
+use Rattle.unbroken.specs.Lasting.{UnloadsRows, Unloads}
 
 abbrev pub There : Base → ℕ → Type 0
 There b c = (k : Class) × (getElem? (b .classes) c ≡ some k)
@@ -74,21 +77,28 @@ resolves-join {a} {b} {d} x y = record {
     on : (c : ℕ) → There a c → There b c
     on c h = (h .0, x .classes c (h .0) (h .1))
 
+grows-resolves : (w v : World) → Rooted (w .base) → Grows w v → Resolves (w .base) (v .base)
+grows-resolves w v k g = record {
+  classes = g .classes;
+  cached = g .cache;
+  super = super-stable w v k g;
+  isBelow = below-stable w v k g;
+  nearestField = field-stable w v k g;
+  selectedMethod = selected-stable w v k g;
+  loader = loader-stable w v k g;
+  fields = slots-stable w v k g;
+}
+
+-- rows that are cut to a level, and sound, resolve as before what they still have
+pub cut-resolves : (l : Level) (r : Rows) → Sound (cutTo l r) → Resolves (worldOf (cutTo l r) .base) (worldOf r .base)
+cut-resolves l r s = grows-resolves (worldOf (cutTo l r)) (worldOf r) (sound-rooted (cutTo l r) s) (cut-grows l r s)
+
 module _ (r : Rows) (w : Whole r) where
   abbrev W : World
   W = worldOf r
 
   grown : (v : World) → Grows W v → Resolves (W .base) (v .base)
-  grown v g = let k = ready r w .rooted in record {
-    classes = g .classes;
-    cached = g .cache;
-    super = super-stable W v k g;
-    isBelow = below-stable W v k g;
-    nearestField = field-stable W v k g;
-    selectedMethod = selected-stable W v k g;
-    loader = loader-stable W v k g;
-    fields = slots-stable W v k g;
-  }
+  grown v g = grows-resolves W v (ready r w .rooted) g
 
   abbrev Q : {A : Type 0} → Given A → Type 0
   Q g = Resolves (W .base) (worldOf (g .rows) .base)
@@ -120,13 +130,14 @@ module _ (r : Rows) (w : Whole r) where
   unfolding dropRows
   drop-resolves k = then Q _ _ (λ _ _. resolves-same (W .base))
 
-  rows-resolve : (c : RowCall) → Ok (onRowCall c r) Q
-  rows-resolve (rowDefine l bs) = define-resolves l bs
-  rows-resolve (rowRecord l n c) = record-resolves l n c
-  rows-resolve (rowStart k l n m v) = start-resolves k l n m v
-  rows-resolve (rowDrop k) = drop-resolves k
-  rows-resolve rowSweep = unfold sweepRows in resolves-same (W .base)
-  rows-resolve (rowTry c n) = try-leaves (λ s. Resolves (W .base) (worldOf s .base)) c n r (resolves-same (W .base))
+  rows-resolve : (c : RowCall) → (UnloadsRows c → ⊥) → Ok (onRowCall c r) Q
+  rows-resolve (rowDefine l bs) i = define-resolves l bs
+  rows-resolve (rowRecord l n c) i = record-resolves l n c
+  rows-resolve (rowStart k l n m v) i = start-resolves k l n m v
+  rows-resolve (rowDrop k) i = drop-resolves k
+  rows-resolve rowSweep i = unfold sweepRows in resolves-same (W .base)
+  rows-resolve (rowTry c n) i = try-leaves (λ s. Resolves (W .base) (worldOf s .base)) c n r (resolves-same (W .base))
+  rows-resolve rowTakeBack i = absurd (i tt)
 
   step-resolves : Ok (stepRows r) Q
   unfolding stepRows
@@ -154,10 +165,21 @@ one-resolves t = wrap-resolves Refused stepRows t step-whole step-resolves
 pub resolution-lasts : (c : Call) → (Unloads c → ⊥) → (t : Tables) → Resolves (worldOf (view t) .base) (worldOf (view (perform c t .tables)) .base)
 unfolding perform
 resolution-lasts callBoot i t = absurd (i tt)
-resolution-lasts (callRows c) i t = wrap-resolves Denied (onRowCall c) t (λ r w. rows-whole r w c) (λ r w. rows-resolve r w c)
+resolution-lasts (callRows c) i t = wrap-resolves Denied (onRowCall c) t (λ r w. rows-whole r w c) (λ r w. rows-resolve r w c i)
 resolution-lasts callStep i t = one-resolves t
 resolution-lasts (callRun n) i t =
     run-keeps (Later t) (λ s p. resolves-join p (one-resolves s)) n t (resolves-same (worldOf (view t) .base))
+
+-- after a taking back what is still there resolves as before it
+pub taken-resolves : (t : Tables) → Resolves (worldOf (view (perform callTakeBack t .tables)) .base) (worldOf (view t) .base)
+unfolding perform
+taken-resolves t = shown-traced Denied (onRowCall rowTakeBack) (λ _ s. Resolves (worldOf s .base) (worldOf (view t) .base)) t (λ r w. rows-whole r w rowTakeBack)
+    (λ w. resolves-same (worldOf (view t) .base))
+    (λ w b g e. ok-at (λ (g : Given Reply). Resolves (worldOf (g .rows) .base) (worldOf (view t) .base)) _ (back (view t .trace) b) g e)
+  where
+    back : (ls : List Level) → EachTurn Leaves ls (view t) → Ok (takenBack ls (view t)) (λ g. Resolves (worldOf (g .rows) .base) (worldOf (view t) .base))
+    back [] b = unfold takenBack in tt
+    back (l ∷ ls) b = unfold takenBack in cut-resolves l (view t) (b .0 .1)
 
 -- whatever calls follow
 pub resolution-lasts-all : (cs : List Call) → All (λ c. Unloads c → ⊥) cs → (t : Tables) → Resolves (worldOf (view t) .base) (worldOf (view (performAll cs t .tables)) .base)

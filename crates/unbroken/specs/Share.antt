@@ -26,7 +26,7 @@ use Rattle.definition.specs.Constraints.{World}
 use Rattle.definition.specs.Machine.{free, owned, Objects, Exists, madeBy, roomless, shareUsed, Frame, Now, now}
 use Rattle.definition.specs.Tables.{Tables, Rows, worldOf, view}
 use Rattle.definition.specs.Broken.{broken}
-use Rattle.definition.specs.Calls.{turnOf, turn, stepTables, RowCall, rowDefine, rowRecord, rowStart, rowDrop, rowSweep, rowTry, loadDefine, loadRecord, Call, callBoot, callRows, callStart, callSweep, callStep, callRun, perform, performAll}
+use Rattle.definition.specs.Calls.{turnOf, turn, stepTables, RowCall, rowDefine, rowRecord, rowStart, rowDrop, rowSweep, rowTry, rowTakeBack, loadDefine, loadRecord, Call, callBoot, callRows, callStart, callSweep, callStep, callRun, perform, performAll}
 use Rattle.laws.specs.Causes.{Cause, cause, first, reading, instructionCauses, accessing, readCauses, frameCauses, defineCauses, recordCauses, startCauses, rowCauses, causes}
 use Rattle.laws.specs.Objects.{Tasked, quote-roomless}
 use Rattle.laws.specs.Owners.{makerOf, leaves-maker}
@@ -124,6 +124,7 @@ Asks (callRows (rowStart k l n m v)) t = k ≡ 1
 Asks (callRows (rowDrop k)) t = ⊥
 Asks (callRows rowSweep) t = ⊥
 Asks (callRows (rowTry c n)) t = ⊥
+Asks (callRows rowTakeBack) t = ⊥
 Asks callStep t = NewTurn t
 Asks (callRun n) t = ⊥
 
@@ -181,6 +182,7 @@ share-refused (callRows (rowStart k l n x v)) t a m h = first-applies (callStart
 share-refused (callRows (rowDrop k)) t a m h = absurd a
 share-refused (callRows rowSweep) t a m h = absurd a
 share-refused (callRows (rowTry c n)) t a m h = absurd a
+share-refused (callRows rowTakeBack) t a m h = absurd a
 share-refused callStep t a m h = first-applies callStep t ∙ told 18 _ h
     (ap (saidOf 18) (new-causes t a) ∙ (unfold instructionCauses saidOf in used (view t .objects) m))
 share-refused (callRun n) t a m h = absurd a
@@ -279,6 +281,7 @@ refused-share c t h = let w : first (causes c t) ≡ 18 = sym (first-applies c t
     go (callRows rowSweep) w u = absurd (false≢true (unfold causes rowCauses any in applied _ 17 w))
     go (callRows (rowTry (loadDefine l bs) n)) w u = absurd (false≢true (unfold causes rowCauses defineCauses any in applied _ 17 w))
     go (callRows (rowTry (loadRecord l x k) n)) w u = absurd (false≢true (unfold causes rowCauses recordCauses any in applied _ 17 w))
+    go (callRows rowTakeBack) w u = absurd (false≢true (unfold causes rowCauses any in applied _ 17 w))
     go callStep w u =
         let a = step-passed t w in
         let s = frame-shared t (turn (view t)) (running (view t .quote) (view t .report)) refl refl (a .1) in
@@ -303,6 +306,7 @@ Quotes (callRows (rowStart k l n m v)) t = k ≡ 0
 Quotes (callRows (rowDrop k)) t = ⊥
 Quotes (callRows rowSweep) t = ⊥
 Quotes (callRows (rowTry c n)) t = ⊥
+Quotes (callRows rowTakeBack) t = ⊥
 Quotes callStep t = turn (view t) ≡ 0
 Quotes (callRun n) t = ⊥
 
@@ -314,6 +318,7 @@ quote-unshared (callRows (rowStart k l n m v)) t q h = let one : k ≡ 1 = refus
 quote-unshared (callRows (rowDrop k)) t q h = q
 quote-unshared (callRows rowSweep) t q h = q
 quote-unshared (callRows (rowTry c n)) t q h = q
+quote-unshared (callRows rowTakeBack) t q h = q
 quote-unshared callStep t q h = let a : NewTurn t = refused-share callStep t h .0 in omega (arith, q, a .report)
 quote-unshared (callRun n) t q h = q
 
@@ -361,6 +366,7 @@ maker-left (rowStart j l n x v) h r s g o k m = leaves-maker j (r .objects) (s .
 maker-left (rowDrop j) h r s g o k m = leaves-maker j (r .objects) (s .objects) (g .owners) o k m
 maker-left rowSweep h r s g o k m = absurd (h tt)
 maker-left (rowTry c n) h r s e o k m = rw e m
+maker-left rowTakeBack h r s a o k m = rw (← a .objects) m
 
 maker-step : (t : Tables) (o k : ℕ) → makerOf (view t .objects) o ≡ some k → makerOf (view (stepTables t .tables) .objects) o ≡ some k
 maker-step t o k m = leaves-maker (turn (view t)) (view t .objects) (view (stepTables t .tables) .objects) (step-leaves t .owners) o k m

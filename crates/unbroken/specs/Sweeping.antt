@@ -6,10 +6,11 @@ use mathlib.Core.Path.{_≡_, refl, sym, ap, _∙_, subst}
 use mathlib.Core.Bool.{Bool, true, false, false≢true}
 use mathlib.Core.Option.{none, some}
 use mathlib.Core.List.{List, [], _∷_, _++_, List·Memᴰ, List·Memᴰ·head, List·Memᴰ·tail, List·Memᴰ·not-nil}
-use mathlib.Core.Logic.{_⊎_, inl, inr}
+use mathlib.Core.Logic.{_⊎_, inl, inr, _≢_}
 use Prim.Native.Nat.{ℕ, zero, suc, _+_, _<_, _≤_}
 use native.Mathlib.Omega.{arith}
-use lib.ListN.{length, getElem?, getD}
+use lib.ListN.{length, getElem?, getD, set}
+use lib.Seq.{getD-set-same, getD-set-other}
 use lib.Dec.{eqb, ltb}
 use borrow.Author.Tests.{ltb-true, ltb-false}
 use Rattle.definition.specs.declared.Refusal.the-variants.{Word}
@@ -25,19 +26,21 @@ use Rattle.definition.specs.Constraints.{World}
 use Rattle.definition.specs.Instructions.{Decoded, pick}
 use Rattle.definition.specs.Lists.{writeRows}
 use Rattle.definition.specs.Machine.{Value, emptyValue, intValue, nullValue, objectValue, unlistedValue, Object, ObjectRow, free, owned, Objects, existing, Exists, inUse, unused, made, Frame, entryFrame, Progress, Now, now, newObject, past, execute, step}
-use Rattle.definition.specs.Numbers.{ownersCell, tieNumbersCell}
+use Rattle.definition.specs.Numbers.{objectLimit, ownersCell, tieNumbersCell, loadsCell, traceCell}
 use Rattle.definition.specs.Sweeping.{named, roots, links, Reached, reached}
 use Rattle.definition.specs.Loading.{started}
 use Rattle.definition.specs.Tables.{Tables, tables, Rows, worldOf, viewBase, viewOver, view, put, ownerOf, ownerAt, putOwner, framesIn, withObjects}
 use Rattle.definition.specs.Broken.{broken}
-use Rattle.definition.specs.Calls.{Given, Done, done, carried, progressed, sweepRows, startRows, stepTask, stepOn, stepRows, stepTables, turnOf, turn, rowStart, Call, callStart, callSweep, perform}
+use Rattle.definition.specs.Calls.{Given, Done, done, carried, closed, progressed, sweepRows, startRows, stepTask, stepOn, stepRows, stepTables, turnOf, turn, rowStart, Call, callStart, callSweep, perform}
 use Rattle.definition.specs.Answers.{ok}
 use Rattle.laws.specs.Objects.{existing-owned, unused-free, unused-lowest, made-there}
 use Rattle.laws.specs.Refusals.{running}
 use Rattle.laws.specs.Results.{bind-ok, ok-inj}
 use Rattle.laws.specs.Sweeps.{member-either, link-names, reached-found, swept-row, swept, freed, sweep-keeps, sweep-left, sweep-freed, sweep-again, sweep-rests, sweep-none}
 use Rattle.laws.specs.Wrapped.{wrap-broken, wrap-carried, Ok, ok-at, then}
-use Rattle.layout.specs.OwnedRows.{owners-behind, owners-past, owner-put, owner-past, swept-length}
+use Rattle.layout.specs.OwnedRows.{putOwner-length, owners-behind, owners-past, owner-put, owner-past, swept-length}
+use Rattle.layout.specs.Places.{writeRows-length}
+use Rattle.unbroken.specs.Cut.{whole-traced}
 use Rattle.layout.specs.ReadBack.{view-put}
 use Rattle.layout.specs.Tests.{All, all-both}
 use Rattle.layout.specs.Unbroken.{unbroken, broken-false}
@@ -69,18 +72,18 @@ module _ (t : Tables) (h : broken t ≡ false) where
   abbrev after : Tables
   after = perform callSweep t .tables
 
-  sweep-done : perform callSweep t ≡ done (Swept (freed os fs)) (put (withObjects (swept os fs) (view t)) t)
+  sweep-done : perform callSweep t ≡ done (Swept (freed os fs)) (put (closed (withObjects (swept os fs) (view t))) t)
   unfolding perform
   sweep-done = wrap-carried Denied sweepRows t h ∙ (unfold sweepRows carried in refl)
 
   pub sweep-answers : perform callSweep t .answer ≡ Swept (freed os fs)
   sweep-answers = ap (λ (d : Done Reply). d .answer) sweep-done
 
-  -- what the tables show: the objects that are left, all else as it was
-  pub sweep-shows : view after ≡ withObjects (swept os fs) (view t)
+  -- what the tables show: the objects that are left, no load that can be taken back, all else as it was
+  pub sweep-shows : view after ≡ closed (withObjects (swept os fs) (view t))
   sweep-shows =
       let u = broken-false t h in
-      ap (λ (d : Done Reply). view (d .tables)) sweep-done ∙ view-put (withObjects (swept os fs) (view t)) t (u .0) (objects-whole (view t) (u .1))
+      ap (λ (d : Done Reply). view (d .tables)) sweep-done ∙ view-put (closed (withObjects (swept os fs) (view t))) t (u .0) (whole-traced (withObjects (swept os fs) (view t)) [] (omega arith) (objects-whole (view t) (u .1)))
 
   left-is : view after .objects ≡ swept os fs
   left-is = ap (λ (r : Rows). r .objects) sweep-shows
@@ -96,11 +99,13 @@ module _ (t : Tables) (h : broken t ≡ false) where
   pub sweep-counts : inUse os ≡ inUse (view after .objects) + freed os fs
   sweep-counts = sweep-freed os fs ∙ ap (λ (qs : Objects). inUse qs + freed os fs) (sym left-is)
 
-  -- no other table changes, nor any of the eight counts, nor any number of a row; an owner is as it was, or 0 where an object that isn't reached was freed
+  -- no other table changes, nor any of the eight counts, nor any number of a row; no load can be taken back; an owner is as it was, or 0 where an object that isn't reached was freed
   pub record SweepLeaves : Type 0 where
     pub counts : (j : ℕ) → j < ownersCell → getD (after .counts) j 0 ≡ getD (t .counts) j 0
-    pub owners : (o : ℕ) → (ownerAt (after .counts) o ≡ ownerAt (t .counts) o) ⊎ ((ownerAt (after .counts) o ≡ 0) × Exists os o × (Reached os fs o → ⊥))
-    pub numbers : (j : ℕ) → tieNumbersCell ≤ j → getD (after .counts) j 0 ≡ getD (t .counts) j 0
+    pub owners : (o : ℕ) → o < objectLimit → (ownerAt (after .counts) o ≡ ownerAt (t .counts) o) ⊎ ((ownerAt (after .counts) o ≡ 0) × Exists os o × (Reached os fs o → ⊥))
+    pub numbers : (j : ℕ) → tieNumbersCell ≤ j → j < loadsCell → getD (after .counts) j 0 ≡ getD (t .counts) j 0
+    pub loads : getD (after .counts) loadsCell 0 ≡ 0
+    pub trace : (j : ℕ) → traceCell ≤ j → getD (after .counts) j 0 ≡ getD (t .counts) j 0
     pub classes : after .classes ≡ t .classes
     pub kept : after .kept ≡ t .kept
     pub cache : after .cache ≡ t .cache
@@ -109,7 +114,7 @@ module _ (t : Tables) (h : broken t ≡ false) where
     pub objects : after .objects ≡ t .objects
     pub frames : after .frames ≡ t .frames
 
-  written : after ≡ tables (writeRows putOwner (swept os fs) 0 (t .counts)) (t .classes) (t .kept) (t .cache) (t .ties) (t .subtypes) (t .objects) (t .frames)
+  written : after ≡ tables (set (writeRows putOwner (swept os fs) 0 (t .counts)) loadsCell 0) (t .classes) (t .kept) (t .cache) (t .ties) (t .subtypes) (t .objects) (t .frames)
   unfolding view viewOver
   written = ap (λ (d : Done Reply). d .tables) sweep-done ∙ sweep-writes (viewBase t) t (reached os fs) (unbroken t h .counts .objects)
 
@@ -117,11 +122,14 @@ module _ (t : Tables) (h : broken t ≡ false) where
   unfolding view viewOver
   owner-read o x e = row-owner t (viewBase t) o x e
 
-  owner-left : (o : ℕ) → (ownerAt (after .counts) o ≡ ownerAt (t .counts) o) ⊎ ((ownerAt (after .counts) o ≡ 0) × Exists os o × (Reached os fs o → ⊥))
-  owner-left o = go (ltb o (length os)) refl
+  owner-left : (o : ℕ) → o < objectLimit → (ownerAt (after .counts) o ≡ ownerAt (t .counts) o) ⊎ ((ownerAt (after .counts) o ≡ 0) × Exists os o × (Reached os fs o → ⊥))
+  owner-left o few = go (ltb o (length os)) refl
     where
+      apart : ownerAt (set (writeRows putOwner (swept os fs) 0 (t .counts)) loadsCell 0) o ≡ ownerAt (writeRows putOwner (swept os fs) 0 (t .counts)) o
+      apart = unfold ownerAt in getD-set-other (writeRows putOwner (swept os fs) 0 (t .counts)) loadsCell (ownersCell + o) 0 0 (λ e. omega arith)
+
       cell : ownerAt (after .counts) o ≡ ownerAt (writeRows putOwner (swept os fs) 0 (t .counts)) o
-      cell = ap (λ (u : Tables). ownerAt (u .counts) o) written
+      cell = ap (λ (u : Tables). ownerAt (u .counts) o) written ∙ apart
 
       row : (x : ObjectRow) → getElem? os o ≡ some x → (u : Bool) → has eqb o (reached os fs) ≡ u → ownerOf x ≡ ownerAt (t .counts) o → ownerAt (after .counts) o ≡ ownerOf (pick u x free)
           → (ownerAt (after .counts) o ≡ ownerAt (t .counts) o) ⊎ ((ownerAt (after .counts) o ≡ 0) × Exists os o × (Reached os fs o → ⊥))
@@ -142,10 +150,13 @@ module _ (t : Tables) (h : broken t ≡ false) where
   pub sweep-tables : SweepLeaves
   sweep-tables = record {
     owners = owner-left;
-    counts = λ j l. ap (λ (u : Tables). getD (u .counts) j 0) written ∙ owners-behind (swept os fs) 0 (t .counts) j l;
-    numbers = λ j l.
-        ap (λ (u : Tables). getD (u .counts) j 0) written
-        ∙ owners-past (swept os fs) 0 (t .counts) j (omega (arith, swept-length (reached os fs) 0 os, broken-false t h .1 .limits .objects));
+    counts = λ j l. cell j (λ e. omega arith) ∙ owners-behind (swept os fs) 0 (t .counts) j l;
+    numbers = λ j l m. cell j (λ e. omega arith) ∙ past j l;
+    loads =
+        ap (λ (u : Tables). getD (u .counts) loadsCell 0) written
+        ∙ getD-set-same (writeRows putOwner (swept os fs) 0 (t .counts)) loadsCell 0 0
+        (omega (arith, writeRows-length putOwner putOwner-length (swept os fs) 0 (t .counts), broken-false t h .0 .counts));
+    trace = λ j l. cell j (λ e. omega arith) ∙ past j (omega arith);
     classes = ap (λ (u : Tables). u .classes) written;
     kept = ap (λ (u : Tables). u .kept) written;
     cache = ap (λ (u : Tables). u .cache) written;
@@ -154,6 +165,12 @@ module _ (t : Tables) (h : broken t ≡ false) where
     objects = ap (λ (u : Tables). u .objects) written;
     frames = ap (λ (u : Tables). u .frames) written;
   }
+    where
+      cell : (j : ℕ) → j ≢ loadsCell → getD (after .counts) j 0 ≡ getD (writeRows putOwner (swept os fs) 0 (t .counts)) j 0
+      cell j n = ap (λ (u : Tables). getD (u .counts) j 0) written ∙ getD-set-other (writeRows putOwner (swept os fs) 0 (t .counts)) loadsCell j 0 0 n
+
+      past : (j : ℕ) → tieNumbersCell ≤ j → getD (writeRows putOwner (swept os fs) 0 (t .counts)) j 0 ≡ getD (t .counts) j 0
+      past j l = owners-past (swept os fs) 0 (t .counts) j (omega (arith, swept-length (reached os fs) 0 os, broken-false t h .1 .limits .objects))
 
   -- where no task has a frame, no object is left
   pub sweep-empties : view t .quote ≡ [] → view t .report ≡ [] → (o : ℕ) → existing (view after .objects) o ≡ none
@@ -165,11 +182,11 @@ pub sweep-twice : (t : Tables) (h : broken t ≡ false) → perform callSweep (p
 sweep-twice t h =
     let u : Tables = perform callSweep t .tables in
     let b : broken u ≡ false = kept-unbroken callSweep t h in
-    let s : view u ≡ withObjects (swept (view t .objects) (allFrames (view t))) (view t) = sweep-shows t h in
+    let s : view u ≡ closed (withObjects (swept (view t .objects) (allFrames (view t))) (view t)) = sweep-shows t h in
     let none : freed (view u .objects) (allFrames (view u)) ≡ 0 = ap (λ (r : Rows). freed (r .objects) (allFrames r)) s ∙ sweep-rests (view t .objects) (allFrames (view t)) in
-    let same : withObjects (swept (view u .objects) (allFrames (view u))) (view u) ≡ view u =
-    ap (λ (r : Rows). withObjects (swept (r .objects) (allFrames r)) r) s
-    ∙ (ap (λ (qs : Objects). withObjects qs (view t)) (sweep-again (view t .objects) (allFrames (view t))) ∙ sym s) in
+    let same : closed (withObjects (swept (view u .objects) (allFrames (view u))) (view u)) ≡ view u =
+    ap (λ (r : Rows). closed (withObjects (swept (r .objects) (allFrames r)) r)) s
+    ∙ (ap (λ (qs : Objects). closed (withObjects qs (view t))) (sweep-again (view t .objects) (allFrames (view t))) ∙ sym s) in
     sweep-done u b ∙ λ i. done (Swept (none i)) ((ap (λ (r : Rows). put r u) same ∙ put-view u) i)
 
 -- No place names an object that doesn't exist, of rows that are whole: a freed number stands nowhere
@@ -301,7 +318,7 @@ progressed-frames (suc j) r o = refl
 
 -- what holds of what the instruction leaves holds of what the tables show after a step that ran
 pub ran-shows : (t : Tables) (f : Frame) (fs : List Frame) (n : Now) (k : ℕ) (P : Rows → Type 0) → Turns t f fs n → stepTables t .answer ≡ Ran k
-    → (Whole (view t) → (o : Progress) → execute (turn (view t)) (worldOf (view t)) (view t .objects) f fs (n .theClass) (n .at) (n .at .instruction) ≡ ok o → P (progressed (turn (view t)) (view t) o))
+    → (Whole (view t) → (o : Progress) → execute (turn (view t)) (worldOf (view t)) (view t .objects) f fs (n .theClass) (n .at) (n .at .instruction) ≡ ok o → P (closed (progressed (turn (view t)) (view t) o)))
     → P (view (stepTables t .tables))
 unfolding stepTables stepRows stepOn stepTask step turn turnOf
 ran-shows t f fs n k P r ran h = shown Refused stepRows (λ a s. a ≡ Ran k → P s) t step-whole (λ w e. let z : _≡_ {A = ℕ} 0 1 = cc in absurd (omega arith))
@@ -315,7 +332,7 @@ ran-shows t f fs n k P r ran h = shown Refused stepRows (λ a s. a ≡ Ran k →
         let did : execute j (worldOf (view t)) (view t .objects) f fs (n .theClass) (n .at) (n .at .instruction) ≡ ok (a .0) =
         subst (λ (x : Now). execute j (worldOf (view t)) (view t .objects) f fs (x .theClass) (x .at) (x .at .instruction) ≡ ok (a .0)) same (b .2) in
         subst P (ap (λ (x : Given Answer). x .rows) (ok-inj (a .2)))
-        (subst (λ (x : ℕ). P (progressed x (view t) (a .0))) q
+        (subst (λ (x : ℕ). P (closed (progressed x (view t) (a .0)))) q
         (h w (a .0) (subst (λ (x : ℕ). execute x (worldOf (view t)) (view t .objects) f fs (n .theClass) (n .at) (n .at .instruction) ≡ ok (a .0)) (sym q) did)))
 
     go : Whole (view t) → (q p : List Frame) → view t .quote ≡ q → running q p ≡ f ∷ fs → (g : Given Answer) → stepOn q p (worldOf (view t)) (view t) ≡ ok g → P (g .rows)

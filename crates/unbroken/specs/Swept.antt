@@ -108,6 +108,7 @@ module _ (r : Rows) (w : Whole r) where
       objects = omega (arith, swept-length (reached (r .objects) all) 0 (r .objects), w .limits .objects);
       quote = w .limits .quote;
       report = w .limits .report;
+      trace = w .limits .trace;
     };
     classes = w .classes;
     cache = w .cache;

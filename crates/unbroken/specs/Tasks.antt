@@ -17,9 +17,9 @@ use Rattle.definition.specs.declared.Reply.the-variants.{Denied}
 use Rattle.definition.specs.Answers.{Result, refused, ok}
 use Rattle.definition.specs.Constraints.{World}
 use Rattle.definition.specs.Machine.{Frame, Progress, step}
-use Rattle.definition.specs.Tables.{Tables, shaped, Rows, worldOf, view, framesIn}
+use Rattle.definition.specs.Tables.{Tables, Level, shaped, Rows, cutTo, worldOf, view, framesIn}
 use Rattle.definition.specs.Broken.{broken}
-use Rattle.definition.specs.Calls.{Given, boot, progressed, defineRows, recordRows, startRows, dropRows, sweepRows, answerOf, stepTask, stepOn, stepRows, Done, done, stepTables, runFrom, run, Call, callBoot, callStep, callRun, perform, RowCall, rowDefine, rowRecord, rowStart, rowDrop, rowSweep, rowTry, onRowCall, callRows}
+use Rattle.definition.specs.Calls.{Given, boot, closed, progressed, defineRows, recordRows, startRows, dropRows, sweepRows, takenBack, answerOf, stepTask, stepOn, stepRows, Done, done, stepTables, runFrom, run, Call, callBoot, callStep, callRun, perform, RowCall, rowDefine, rowRecord, rowStart, rowDrop, rowSweep, rowTry, rowTakeBack, onRowCall, callRows}
 use Rattle.laws.specs.Results.{bind-ok, need-ok, ok-inj}
 use Rattle.laws.specs.Runs.{runs-end, run-keeps}
 use Rattle.laws.specs.Wrapped.{Ok, ok-at, then}
@@ -38,7 +38,7 @@ same-result k j none e = (refl, cc)
 same-result k j (some n) e = let z : _≡_ {A = ℕ} 0 1 = cc in absurd (omega arith)
 
 task-ok : (k : ℕ) (w : World) (f : Frame) (fs : List Frame) (r : Rows) (g : Given Answer) → stepTask k w f fs r ≡ ok g
-    → (o : Progress) × (step k w (r .objects) f fs ≡ ok o) × (ok (record { answer = answerOf k (o .result); rows = progressed k r o }) ≡ ok g)
+    → (o : Progress) × (step k w (r .objects) f fs ≡ ok o) × (ok (record { answer = answerOf k (o .result); rows = closed (progressed k r o) }) ≡ ok g)
 unfolding stepTask
 task-ok k w f fs r g e = bind-ok _ _ e
 
@@ -55,7 +55,7 @@ step-kept t h = shown Refused stepRows (Kept t) t step-whole (λ w. (refl, λ k 
         let d : stepTask 0 (worldOf r) f fs r ≡ ok g = unfold stepOn in e in
         let a = task-ok 0 (worldOf r) f fs r g d in
         let x : answerOf 0 (a .0 .result) ≡ g .answer = cc (a .2) in
-        let y : progressed 0 r (a .0) ≡ g .rows = cc (a .2) in (
+        let y : closed (progressed 0 r (a .0)) ≡ g .rows = cc (a .2) in (
           ap (λ (z : Rows). z .report) (sym y),
           λ k q n.
               ok-at (Advances (Loops (worldOf r) f) 0 (r .objects) (f ∷ fs)) _ (step-advances 0 (worldOf r) (r .objects) f fs) (a .0) (a .1) .left (same-result 0 k (a .0 .result) (x ∙ q) .0)
@@ -83,7 +83,7 @@ ran-moves t k = shown Refused stepRows (λ a z. a ≡ Ran k → framesIn k z ≡
     moved j f fs q is g e a s =
         let o = task-ok j (worldOf r) f fs r g e in
         let x : answerOf j (o .0 .result) ≡ g .answer = cc (o .2) in
-        let y : progressed j r (o .0) ≡ g .rows = cc (o .2) in
+        let y : closed (progressed j r (o .0)) ≡ g .rows = cc (o .2) in
         let n = same-result j k (o .0 .result) (x ∙ a) in
         let z : framesIn j (g .rows) ≡ framesIn j r = subst (λ (i : ℕ). framesIn i (g .rows) ≡ framesIn i r) (sym (n .1)) s in
         subst (λ (i : ℕ). TaskLoops i r) (n .1) (record {
@@ -124,6 +124,7 @@ MovesReportRows (rowStart k l n m v) = k ≡ 1
 MovesReportRows (rowDrop k) = k ≡ 1
 MovesReportRows rowSweep = ⊥
 MovesReportRows (rowTry c n) = ⊥
+MovesReportRows rowTakeBack = ⊥
 
 abbrev pub MovesReport : Call → Type 0
 MovesReport callBoot = Unit {0}
@@ -157,6 +158,11 @@ drop-stays zero r h = then (λ g. g .rows .report ≡ r .report) _ _ (λ _ _. re
 drop-stays (suc zero) r h = absurd (h refl)
 drop-stays (suc (suc k)) r h = then (λ g. g .rows .report ≡ r .report) _ _ (λ _ e. absurd (let z = ltb-true (suc (suc k)) 2 (need-ok _ _ e) in omega arith))
 
+taken-stays : (ls : List Level) (r : Rows) → Ok (takenBack ls r) (λ g. g .rows .report ≡ r .report)
+unfolding takenBack cutTo
+taken-stays [] r = tt
+taken-stays (l ∷ ls) r = refl
+
 rows-stay : (c : RowCall) (r : Rows) → (MovesReportRows c → ⊥) → Ok (onRowCall c r) (λ g. g .rows .report ≡ r .report)
 rows-stay (rowDefine l bs) r h = define-stays l bs r
 rows-stay (rowRecord l n c) r h = record-stays l n c r
@@ -164,6 +170,7 @@ rows-stay (rowStart k l n m v) r h = start-stays k l n m v r h
 rows-stay (rowDrop k) r h = drop-stays k r h
 rows-stay rowSweep r h = unfold sweepRows in refl
 rows-stay (rowTry c n) r h = try-leaves (λ s. s .report ≡ r .report) c n r refl
+rows-stay rowTakeBack r h = taken-stays (r .trace) r
 
 pub report-stays : (c : Call) (t : Tables) → (view t .quote ≡ [] → ⊥) → (MovesReport c → ⊥) → view (perform c t .tables) .report ≡ view t .report
 unfolding perform
@@ -182,6 +189,7 @@ StartsReport (callRows (rowStart k l n m v)) = k ≡ 1
 StartsReport (callRows (rowDrop k)) = ⊥
 StartsReport (callRows rowSweep) = ⊥
 StartsReport (callRows (rowTry c n)) = ⊥
+StartsReport (callRows rowTakeBack) = ⊥
 StartsReport callStep = ⊥
 StartsReport (callRun n) = ⊥
 
@@ -204,6 +212,7 @@ rows-none c r h e = go c h
     go (rowDrop k) h = drop-none k r e
     go rowSweep h = stays (onRowCall rowSweep r) (rows-stay rowSweep r (λ z. z))
     go (rowTry c n) h = stays (onRowCall (rowTry c n) r) (rows-stay (rowTry c n) r (λ z. z))
+    go rowTakeBack h = stays (onRowCall rowTakeBack r) (rows-stay rowTakeBack r (λ z. z))
 
 pub step-none : (t : Tables) → view t .report ≡ [] → view (stepTables t .tables) .report ≡ []
 unfolding stepTables stepRows
@@ -216,7 +225,7 @@ step-none t idle = shown Refused stepRows (λ _ s. s .report ≡ []) t step-whol
     go (f ∷ fs) p n g e =
         let d : stepTask 0 (worldOf r) f fs r ≡ ok g = unfold stepOn in e in
         let a = task-ok 0 (worldOf r) f fs r g d in
-        let y : progressed 0 r (a .0) ≡ g .rows = cc (a .2) in
+        let y : closed (progressed 0 r (a .0)) ≡ g .rows = cc (a .2) in
         ap (λ (z : Rows). z .report) (sym y) ∙ idle
     go [] [] n g e = let d : ok (record { answer = Idle; rows = r }) ≡ ok g = unfold stepOn in e in ap (λ (z : Given Answer). z .rows .report) (sym (ok-inj d)) ∙ idle
     go [] (f ∷ fs) n g e = absurd (let l : length (f ∷ fs) ≡ length {A = Frame} [] = ap length n in omega arith)

@@ -27,11 +27,11 @@ use Rattle.laws.specs.Growth.{Grows, grows-super, nth-lt}
 use Rattle.laws.specs.Objects.{made-there, made-exists, share-made}
 use Rattle.laws.specs.Options.{bind-some, need-true, some-bind}
 use Rattle.laws.specs.Results.{need-ok, take-ok}
-use Rattle.laws.specs.Stable.{slots-stable}
+use Rattle.laws.specs.Stable.{Rooted, slots-stable}
 use Rattle.layout.specs.Tests.{All, all-both, all-more, from-more}
 use Rattle.layout.specs.InTurn.{numbering-on}
 use Rattle.layout.specs.ReadBack.{object-class}
-use Rattle.layout.specs.Whole.{Between, ClassSound, Classes, First, Framed, From, Listed, RowSound, Whole}
+use Rattle.layout.specs.Whole.{Between, ClassSound, Classes, First, Framed, From, Listed, RowSound, Sound, Whole, whole-sound}
 use Rattle.unbroken.specs.Steps.{Moved, Ready, class-found, class-selected, entered-frame, grow-frame, loader-small, made-few, made-objects, news-between}
 use Rattle.definition.specs.Maybe as Maybe
 use Rattle.laws.specs.Tasks.{of-task}
@@ -48,7 +48,7 @@ nth-there [] i h = absurd (omega arith)
 nth-there (x ∷ xs) zero h = (x, refl)
 nth-there (x ∷ xs) (suc i) h = nth-there xs i (omega arith)
 
-nth-map : {A B : Type 0} (f : A → B) (xs : List A) (i : ℕ) (y : B) → getElem? (map f xs) i ≡ some y → (x : A) × (getElem? xs i ≡ some x) × (f x ≡ y)
+pub nth-map : {A B : Type 0} (f : A → B) (xs : List A) (i : ℕ) (y : B) → getElem? (map f xs) i ≡ some y → (x : A) × (getElem? xs i ≡ some x) × (f x ≡ y)
 nth-map f [] i y h = absurd (Option·none-ne-some y h)
 nth-map f (x ∷ xs) zero y h = (x, refl, Option·some-injective (f x) y h)
 nth-map f (x ∷ xs) (suc i) y h = nth-map f xs i y h
@@ -64,7 +64,7 @@ from-last P j (x ∷ xs) y h p = let z : j + suc (length xs) ≡ suc j + length 
 
 -- Rows that are whole, as a world
 
-class-at : (b : Base) (bs : List ℕ) (ks : List ClassRow) → Classes b bs ks → (c : ℕ) (k : ClassRow) → getElem? ks c ≡ some k → ((c ≡ 0) × First k) ⊎ ClassSound b bs c k
+pub class-at : (b : Base) (bs : List ℕ) (ks : List ClassRow) → Classes b bs ks → (c : ℕ) (k : ClassRow) → getElem? ks c ≡ some k → ((c ≡ 0) × First k) ⊎ ClassSound b bs c k
 class-at b bs [] h c k e = absurd (Option·none-ne-some k e)
 class-at b bs (x ∷ ks) h zero k e = inl (refl, rw (Option·some-injective x k e) at (h .0))
 class-at b bs (x ∷ ks) h (suc c) k e = let z : suc c ≡ 1 + c = omega arith in inr (rw z (from-nth (ClassSound b bs) 1 ks (h .1) c k e))
@@ -72,6 +72,19 @@ class-at b bs (x ∷ ks) h (suc c) k e = let z : suc c ≡ 1 + c = omega arith i
 pub cls-loader : (bs : List ℕ) (k : ClassRow) (f : File) → fileAt bs k ≡ some f → classAt bs k ≡ classOf (k .loader) f
 unfolding classAt
 cls-loader bs k f e = rw (e, classAt) refl
+
+pub sound-rooted : (r : Rows) → Sound r → Rooted (worldOf r .base)
+sound-rooted r s = record { real = real; supers = supers }
+  where
+    real : (q : Request) (c : ℕ) → find (r .cache) q ≡ some c → (k : Class) × (getElem? (map (classAt (r .kept)) (r .classes)) c ≡ some k)
+    real q c e =
+        let x = find-row (r .cache) q c e in
+        nth-there (map (classAt (r .kept)) (r .classes)) c (omega (arith, length-map (r .classes) (classAt (r .kept)), all-mem (Listed (length (r .classes))) (s .cache) (x .1) .class, x .3))
+
+    supers : (c : ℕ) (k : Class) → getElem? (map (classAt (r .kept)) (r .classes)) c ≡ some k → 0 < c → (p : ℕ) × (superOf (worldOf r .base) c ≡ some p)
+    supers c k e l =
+        let x = nth-map (classAt (r .kept)) (r .classes) c k e in
+        elim (class-at (worldOf r .base) (r .kept) (r .classes) (s .classes) c (x .0) (x .1)) [ inl z ↦ absurd (omega (arith, z .0)) | inr z ↦ (z .super, z .isSuper) ]
 
 module _ (r : Rows) (w : Whole r) where
   abbrev pub W : World
@@ -83,7 +96,7 @@ module _ (r : Rows) (w : Whole r) where
   pub ready : Ready W N (r .objects)
   ready = record {
     number = length-map (r .classes) (classAt (r .kept));
-    rooted = record { real = real; supers = supers };
+    rooted = sound-rooted r (whole-sound r w);
     loaders = loaders;
     ties = w .limits .ties;
     between = w .ties;
@@ -92,16 +105,6 @@ module _ (r : Rows) (w : Whole r) where
     share = w .share;
   }
     where
-      real : (q : Request) (c : ℕ) → find (r .cache) q ≡ some c → (k : Class) × (getElem? (map (classAt (r .kept)) (r .classes)) c ≡ some k)
-      real q c e =
-          let x = find-row (r .cache) q c e in
-          nth-there (map (classAt (r .kept)) (r .classes)) c (omega (arith, length-map (r .classes) (classAt (r .kept)), all-mem (Listed N) (w .cache) (x .1) .class, x .3))
-
-      supers : (c : ℕ) (k : Class) → getElem? (map (classAt (r .kept)) (r .classes)) c ≡ some k → 0 < c → (p : ℕ) × (superOf (W .base) c ≡ some p)
-      supers c k e l =
-          let x = nth-map (classAt (r .kept)) (r .classes) c k e in
-          elim (class-at (W .base) (r .kept) (r .classes) (w .classes) c (x .0) (x .1)) [ inl z ↦ absurd (omega (arith, z .0)) | inr z ↦ (z .super, z .isSuper) ]
-
       loaders : (c : ℕ) (k : Class) → getElem? (map (classAt (r .kept)) (r .classes)) c ≡ some k → k .loader < 16
       loaders c k e =
           let x = nth-map (classAt (r .kept)) (r .classes) c k e in
@@ -123,6 +126,7 @@ module _ (r : Rows) (w : Whole r) where
       objects = w .limits .objects;
       quote = of-task (λ (x : List Frame). length x ≤ 32) k a (w .limits .quote);
       report = of-task (λ (x : List Frame). length x ≤ 32) k (w .limits .report) a;
+      trace = w .limits .trace;
     };
     classes = w .classes;
     cache = w .cache;
@@ -146,6 +150,7 @@ module _ (r : Rows) (w : Whole r) where
       objects = m .objects;
       quote = w .limits .quote;
       report = w .limits .report;
+      trace = w .limits .trace;
     };
     classes = w .classes;
     cache = w .cache;

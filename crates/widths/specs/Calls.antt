@@ -4,9 +4,10 @@ use mathlib.Core.Bool.{Bool, true, false}
 use mathlib.Core.Option.{Option, none, some}
 use mathlib.Core.List.{List, [], _∷_, _++_}
 use mathlib.Core.Logic.{inl, inr}
-use Prim.Native.Nat.{ℕ, suc, _<_}
+use Prim.Native.Nat.{ℕ, zero, suc, _<_}
 use native.Mathlib.Omega.{arith}
 use lib.Dec.{eqb}
+use lib.ListN.{take}
 use Rattle.definition.specs.declared.Signature.{Signature}
 use Rattle.definition.specs.Chains.{has}
 use Rattle.definition.specs.Instructions.{pick}
@@ -19,8 +20,8 @@ use Rattle.definition.specs.Verifier.{Note}
 use Rattle.definition.specs.Machine.{Frame, Progress, free, Objects, newObject, intValue}
 use Rattle.definition.specs.Sweeping.{sweptFrom}
 use Rattle.definition.specs.Loading.{subtypeIs, subtypeOf, newSubtypes, overrideTie, overrideTies, define, recorded, started}
-use Rattle.definition.specs.Tables.{Rows, worldOf, withTies, withObjects, withFrames, framesIn, withNumbers}
-use Rattle.definition.specs.Calls.{Given, bootRows, progressed, defineRows, recordRows, startRows, dropRows, sweepRows, stepTask, stepOn, stepRows, RowCall, rowDefine, rowRecord, rowStart, rowDrop, rowSweep, rowTry, onRowCall, numberedOn}
+use Rattle.definition.specs.Tables.{Level, Rows, cutTo, worldOf, withTies, withObjects, withFrames, framesIn, withNumbers}
+use Rattle.definition.specs.Calls.{Given, bootRows, closed, takenBack, progressed, defineRows, recordRows, startRows, dropRows, sweepRows, stepTask, stepOn, stepRows, RowCall, rowDefine, rowRecord, rowStart, rowDrop, rowSweep, rowTry, rowTakeBack, onRowCall, numberedOn}
 use Rattle.definition.specs.Widths.{EachBelow, FittingRows}
 use Rattle.laws.specs.Tasks.{of-task}
 use Rattle.laws.specs.Wrapped.{Ok, then}
@@ -115,6 +116,19 @@ swept-fits R i (x ∷ os) h = (go (has eqb i R), swept-fits R (suc i) os (h .1))
     go true = unfold pick in h .0
     go false = unfold pick in tt
 
+closed-fits : (r : Rows) → RowsFit r → RowsFit (closed r)
+closed-fits r f = record { kept = f .kept; cache = f .cache; ties = f .ties; subtypes = f .subtypes; objects = f .objects; quote = f .quote; report = f .report }
+
+all-first : {A : Type 0} (P : A → Type 0) (n : ℕ) (xs : List A) → All P xs → All P (take n xs)
+all-first P zero xs h = tt
+all-first P (suc n) [] h = tt
+all-first P (suc n) (x ∷ xs) h = (h .0, all-first P n xs (h .1))
+
+below-first : (w n : ℕ) (xs : List ℕ) → EachBelow w xs → EachBelow w (take n xs)
+below-first w zero xs h = tt
+below-first w (suc n) [] h = tt
+below-first w (suc n) (x ∷ xs) h = (h .0, below-first w n xs (h .1))
+
 module _ (r : Rows) (f : RowsFit r) where
   world-fits : WorldFits (worldOf r)
   world-fits = record { cache = f .cache; ties = f .ties; subtypes = f .subtypes }
@@ -164,12 +178,12 @@ module _ (r : Rows) (f : RowsFit r) where
 
   start-fits : (k l n m v : ℕ) → v < 4294967296 → Ok (startRows k l n m v r) Fit
   unfolding startRows
-  start-fits k l n m v h = then Fit _ _ (λ _ _. then-on ProgressFits Fit _ _ (started-fits k l n m v (framesIn k r) h) (λ o p. progressed-fits r f k o p))
+  start-fits k l n m v h = then Fit _ _ (λ _ _. then-on ProgressFits Fit _ _ (started-fits k l n m v (framesIn k r) h) (λ o p. closed-fits (progressed k r o) (progressed-fits r f k o p)))
 
   task-fits : (k : ℕ) (g : Frame) (gs : List Frame) → All FrameFits (g ∷ gs) → Ok (stepTask k (worldOf r) g gs r) Fit
   unfolding stepTask
   task-fits k g gs h =
-      then-on ProgressFits Fit _ _ (step-fits k (worldOf r) (r .objects) class-list (f .ties) (f .objects) g gs (h .0) (h .1)) (λ o p. progressed-fits r f k o p)
+      then-on ProgressFits Fit _ _ (step-fits k (worldOf r) (r .objects) class-list (f .ties) (f .objects) g gs (h .0) (h .1)) (λ o p. closed-fits (progressed k r o) (progressed-fits r f k o p))
 
   pub step-rows-fit : Ok (stepRows r) Fit
   unfolding stepRows
@@ -182,7 +196,7 @@ module _ (r : Rows) (f : RowsFit r) where
 
   drop-fits : (k : ℕ) → Ok (dropRows k r) Fit
   unfolding dropRows
-  drop-fits k = then Fit _ _ (λ _ _. frames-fit r f k [] tt)
+  drop-fits k = then Fit _ _ (λ _ _. closed-fits (withFrames k [] r) (frames-fit r f k [] tt))
 
   sweep-fits : Ok (sweepRows r) Fit
   unfolding sweepRows
@@ -196,6 +210,20 @@ module _ (r : Rows) (f : RowsFit r) where
     report = f .report;
   }
 
+  -- the first rows of what fits fit
+  taken-fits : (ls : List Level) → Ok (takenBack ls r) Fit
+  unfolding takenBack cutTo
+  taken-fits [] = tt
+  taken-fits (l ∷ ls) = record {
+    kept = below-first 256 (l .kept) (r .kept) (f .kept);
+    cache = all-first EntryFits (l .cache) (r .cache) (f .cache);
+    ties = all-first TieFits (l .ties) (r .ties) (f .ties);
+    subtypes = all-first SubtypeFits (l .subtypes) (r .subtypes) (f .subtypes);
+    objects = f .objects;
+    quote = f .quote;
+    report = f .report;
+  }
+
   pub rows-fit : (c : RowCall) → FittingRows c → Ok (onRowCall c r) Fit
   rows-fit (rowDefine l bs) h = define-fits l bs h
   rows-fit (rowRecord l n c) h = record-fits l n c h
@@ -203,6 +231,7 @@ module _ (r : Rows) (f : RowsFit r) where
   rows-fit (rowDrop k) h = drop-fits k
   rows-fit rowSweep h = sweep-fits
   rows-fit (rowTry c n) h = try-leaves RowsFit c n r f
+  rows-fit rowTakeBack h = taken-fits (r .trace)
 
 pub boot-fits : RowsFit bootRows
 boot-fits = record { kept = tt; cache = (omega arith, tt); ties = tt; subtypes = tt; objects = tt; quote = tt; report = tt }

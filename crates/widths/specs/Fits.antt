@@ -8,13 +8,13 @@ use Prim.Native.Nat.{ℕ, suc, zero, _+_, _*_, _<_, _≤_}
 use native.Mathlib.Omega.{arith}
 use lib.ListN.{length, getD, set}
 use borrow.Author.Tests.{leb-true}
-use Rattle.definition.specs.Numbers.{tieNumbersCell, subtypeNumbersCell}
+use Rattle.definition.specs.Numbers.{tieNumbersCell, subtypeNumbersCell, loadsCell, traceCell, levelCells}
 use Rattle.definition.specs.Lists.{writeRows, writeStack}
 use Rattle.definition.specs.Classes.{Base, Entry}
 use Rattle.definition.specs.Constraints.{Tie, Subtype}
 use Rattle.definition.specs.Machine.{Value, emptyValue, intValue, nullValue, objectValue, unlistedValue, Object, Frame, ObjectRow, free, owned, Exists}
 use Rattle.definition.specs.File.{File}
-use Rattle.definition.specs.Tables.{Tables, ClassRow, Rows, fileAt, worldOf, putThree, putClassRow, entryAt, putEntry, tieAt, putTie, subtypeAt, putSubtype, valueOf, kindOf, bitsOf, valueAt, putValue, fieldAt, putField, usedFields, objectAt, putObject, localAt, putLocal, operandAt, putOperand, frameOf, frameAt, putFrame, frameBase, frameIn, putFrameIn, viewBase, objectsOf, framesOf, viewOver, view, countsOf, put, ownedBy, ownerOf, ownerAt, putOwner, objectRowAt, putObjectRow, putNumber, putNumbers}
+use Rattle.definition.specs.Tables.{Tables, ClassRow, Level, Rows, cutTo, putLevel, putTrace, fileAt, worldOf, putThree, putClassRow, entryAt, putEntry, tieAt, putTie, subtypeAt, putSubtype, valueOf, kindOf, bitsOf, valueAt, putValue, fieldAt, putField, usedFields, objectAt, putObject, localAt, putLocal, operandAt, putOperand, frameOf, frameAt, putFrame, frameBase, frameIn, putFrameIn, viewBase, objectsOf, framesOf, viewOver, view, countsOf, put, ownedBy, ownerOf, ownerAt, putOwner, objectRowAt, putObjectRow, putNumber, putNumbers}
 use Rattle.definition.specs.Widths.{EachBelow, Widths}
 use Rattle.laws.specs.Options.{bind-some, need-true}
 use Rattle.layout.specs.Tests.{All, all-more}
@@ -22,6 +22,8 @@ use Rattle.layout.specs.Places.{rows-all, stack-all}
 use Rattle.layout.specs.Values.{bits-value}
 use Rattle.layout.specs.InTurn.{numbers-below}
 use Rattle.laws.specs.Objects.{exists-lt}
+use Rattle.layout.specs.Traced.{EachTurn, Leaves, Traced}
+use Rattle.unbroken.specs.Cut.{fewer}
 use Rattle.layout.specs.Whole.{Local, ValueSound, RowSound, Framed, Listed, Between, ClassSound, Classes, Whole}
 use Rattle.widths.specs.Below.{all-zip, from-all, below-cell, below-set, below-read, each-all, below-rows, below-stack}
 
@@ -254,6 +256,57 @@ module _ (n : ℕ) (X : ℕ → Type 0) (few : n ≤ 64) (room : (o : ℕ) → X
     locals = all-zip (Local X) IntFits CellsFit (local-cells X room) (f .locals) (s .locals) (h .locals);
   }
 
+-- A level has its widths where the rows have: it lies under them
+
+pub record LevelFits (l : Level) : Type 0 where
+  pub classes : l .classes < 65536
+  pub kept : l .kept < 65536
+  pub cache : l .cache < 65536
+  pub ties : l .ties < 65536
+  pub subtypes : l .subtypes < 65536
+
+record Short (r : Rows) : Type 0 where
+  classes : length (r .classes) < 65536
+  kept : length (r .kept) < 65536
+  cache : length (r .cache) < 65536
+  ties : length (r .ties) < 65536
+  subtypes : length (r .subtypes) < 65536
+
+cut-short : (l : Level) (r : Rows) → Short r → Short (cutTo l r)
+unfolding cutTo
+cut-short l r h = record {
+  classes = omega (arith, fewer (l .classes) (r .classes), h .classes);
+  kept = omega (arith, fewer (l .kept) (r .kept), h .kept);
+  cache = omega (arith, fewer (l .cache) (r .cache), h .cache);
+  ties = omega (arith, fewer (l .ties) (r .ties), h .ties);
+  subtypes = omega (arith, fewer (l .subtypes) (r .subtypes), h .subtypes);
+}
+
+levels-fit : (ls : List Level) (r : Rows) → Short r → EachTurn Leaves ls r → All LevelFits ls
+levels-fit [] r h b = tt
+levels-fit (l ∷ ls) r h b =
+    let u = b .0 .0 in (
+      record {
+        classes = omega (arith, u .classes, h .classes);
+        kept = omega (arith, u .kept, h .kept);
+        cache = omega (arith, u .cache, h .cache);
+        ties = omega (arith, u .ties, h .ties);
+        subtypes = omega (arith, u .subtypes, h .subtypes);
+      },
+      levels-fit ls (cutTo l r) (cut-short l r h) (b .1),
+    )
+
+below-level : (t : List ℕ) (i : ℕ) (l : Level) → LevelFits l → EachBelow 65536 t → EachBelow 65536 (putLevel t i l)
+unfolding putLevel
+below-level t i l f h =
+    let c : ℕ = traceCell + i * levelCells in
+    let t1 : List ℕ = set t c (l .classes) in
+    let t2 : List ℕ = set t1 (c + 1) (l .kept) in
+    let t3 : List ℕ = set t2 (c + 2) (l .cache) in
+    let t4 : List ℕ = set t3 (c + 3) (l .ties) in
+    below-set 65536 t4 (c + 4) (l .subtypes) (below-set 65536 t3 (c + 3) (l .ties) (below-set 65536 t2 (c + 2) (l .cache)
+    (below-set 65536 t1 (c + 1) (l .kept) (below-set 65536 t c (l .classes) h (f .classes)) (f .kept)) (f .cache)) (f .ties)) (f .subtypes)
+
 module _ (r : Rows) (s : Whole r) (f : RowsFit r) where
   abbrev N : ℕ
   N = length (r .classes)
@@ -316,15 +369,31 @@ module _ (r : Rows) (s : Whole r) (f : RowsFit r) where
       Small : ℕ → Type 0
       Small i = i < length (r .ties) + length (r .subtypes)
 
-  pub put-widths : (t : Tables) → Widths t → Widths (put r t)
+  -- the levels of the trace lie under the counts of rows
+  traced-below : Traced r → (c : List ℕ) → EachBelow 65536 c → EachBelow 65536 (putTrace (r .trace) c)
+  unfolding putTrace putLevel
+  traced-below b c h =
+      let m = s .limits in
+      let short : Short r = record {
+        classes = omega (arith, m .classes);
+        kept = omega (arith, m .kept);
+        cache = omega (arith, m .cache);
+        ties = omega (arith, m .ties);
+        subtypes = omega (arith, m .subtypes);
+      } in
+      below-stack 65536 putLevel LevelFits below-level (r .trace) (set c loadsCell (length (r .trace))) (levels-fit (r .trace) r short b)
+      (below-set 65536 c loadsCell (length (r .trace)) h (omega (arith, m .trace)))
+
+  pub put-widths : Traced r → (t : Tables) → Widths t → Widths (put r t)
   unfolding put putClassRow putEntry putTie putSubtype
-  put-widths t w =
+  put-widths b t w =
       let quoted : EachBelow 4294967296 (writeStack (putFrameIn 0) (r .quote) (t .frames)) =
       below-stack 4294967296 (putFrameIn 0) FrameCells (below-frame 0) (r .quote) (t .frames) (frames-cells (r .quote) (s .quote) (f .quote)) (w .frames) in
       record {
-        counts = numbered-below (writeRows putOwner (r .objects) 0 (writeRows set (countsOf r) 0 (t .counts)))
+        counts = traced-below b (putNumbers (r .numbers) (writeRows putOwner (r .objects) 0 (writeRows set (countsOf r) 0 (t .counts))))
+            (numbered-below (writeRows putOwner (r .objects) 0 (writeRows set (countsOf r) 0 (t .counts)))
             (below-rows 65536 putOwner OwnerFits below-owner (r .objects) 0 (writeRows set (countsOf r) 0 (t .counts)) owners-cells
-            (below-rows 65536 set (λ c. c < 65536) (λ u i c l h. below-set 65536 u i c h l) (countsOf r) 0 (t .counts) counts-cells (w .counts)));
+            (below-rows 65536 set (λ c. c < 65536) (λ u i c l h. below-set 65536 u i c h l) (countsOf r) 0 (t .counts) counts-cells (w .counts))));
         classes = below-threes 65536 (λ k. k .loader) (λ k. k .start) (λ k. k .size) (r .classes) (t .classes)
             (class-rows-fit (worldOf r .base) (r .kept) (r .classes) (s .limits .kept) (s .classes)) (w .classes);
         kept = below-rows 256 set (λ c. c < 256) (λ u i c l h. below-set 256 u i c h l) (r .kept) 0 (t .kept) (each-all 256 (r .kept) (f .kept)) (w .kept);

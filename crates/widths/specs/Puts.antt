@@ -12,20 +12,25 @@ use Rattle.definition.specs.Tables.{Tables, shaped, Rows, view, put}
 use Rattle.definition.specs.Calls.{Given, bootRows, stepRows, Done, done, wrap, boot, stepTables, Call, callBoot, callStep, callRun, perform, onRowCall, callRows}
 use Rattle.laws.specs.Wrapped.{wrapped, ok-at}
 use Rattle.layout.specs.Whole.{Whole}
+use Rattle.layout.specs.Traced.{Traced}
 use Rattle.layout.specs.Unbroken.{broken-false}
 use Rattle.unbroken.specs.Calls.{step-whole, rows-whole, boot-whole}
-use Rattle.unbroken.specs.Unbroken.{Keeps}
+use Rattle.unbroken.specs.Unbroken.{Unhurt, Keeps}
 
 -- an accepted call put its rows, which are whole
 pub record Put {A : Type 0} (f : Rows → Result (Given A)) (t u : Tables) : Type 0 where
   pub given : Given A
   pub accepted : f (view t) ≡ ok given
   pub whole : Whole (given .rows)
+  pub traced : Traced (given .rows)
   pub is : u ≡ put (given .rows) t
 
 pub wrap-puts : {A : Type 0} (deny : Refusal → A) (f : Rows → Result (Given A)) (t : Tables) → Keeps f → (wrap deny f t .tables ≡ t) ⊎ Put f t (wrap deny f t .tables)
 wrap-puts deny f t keeps = wrapped deny f t (λ _ z. (z ≡ t) ⊎ Put f t z) (λ _. inl refl) (λ _ _. inl refl)
-    (λ h g e. inr (record { given = g; accepted = e; whole = ok-at (λ g. Whole (g .rows)) _ (keeps (view t) (broken-false t h .1)) g e; is = refl }))
+    (λ h g e.
+    let u = broken-false t h in
+    let x = ok-at Unhurt _ (keeps (view t) (u .1) (u .2)) g e in
+    inr (record { given = g; accepted = e; whole = x .0; traced = x .1; is = refl }))
 
 -- the tables as they were, or with whole rows put
 abbrev pub Puts : Tables → Tables → Type 0

@@ -15,7 +15,7 @@ use Rattle.definition.specs.Widths.{Widths, Fitting}
 use Rattle.laws.specs.Runs.{run-keeps}
 use Rattle.laws.specs.Wrapped.{Ok, ok-at}
 use Rattle.layout.specs.Tests.{All}
-use Rattle.unbroken.specs.Calls.{step-whole, rows-whole, boot-whole}
+use Rattle.unbroken.specs.Calls.{step-whole, rows-whole, boot-whole, boot-traced}
 use Rattle.unbroken.specs.Unbroken.{Keeps}
 use Rattle.widths.specs.Fits.{RowsFit, view-fits, put-widths}
 use Rattle.widths.specs.Puts.{wrap-puts}
@@ -30,7 +30,7 @@ wrap-widths deny f t whole fit w = elim (wrap-puts deny f t whole) [
   | inl e ↦ subst Widths (sym e) w
   | inr p ↦
       let fits = ok-at (λ g. RowsFit (g .rows)) _ (fit (view t) (view-fits t w)) (p .given) (p .accepted) in
-      subst Widths (sym (p .is)) (put-widths (p .given .rows) (p .whole) fits t w)
+      subst Widths (sym (p .is)) (put-widths (p .given .rows) (p .whole) fits (p .traced) t w)
 ]
 
 boot-widths : (t : Tables) → Widths t → Widths (boot t .tables)
@@ -38,7 +38,7 @@ unfolding boot
 boot-widths t w = go (shaped t)
   where
     go : (b : Bool) → Widths ((elim b as (λ _. Done Reply) [ true ↦ done Accepted (put bootRows t) | false ↦ done (Denied (Word 1)) t ]) .tables)
-    go true = put-widths bootRows boot-whole boot-fits t w
+    go true = put-widths bootRows boot-whole boot-fits boot-traced t w
     go false = w
 
 step-widths : (t : Tables) → Widths t → Widths (stepTables t .tables)

@@ -10,4 +10,5 @@ mod mapped;
 mod rates;
 mod shared;
 mod swept;
+mod taken;
 mod tried;

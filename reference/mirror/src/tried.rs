@@ -121,16 +121,16 @@ pub const FAULTS: [Listing; 23] = [
     }),
     ("a-step-numbers-no-ties", |call, store, _| {
         stepping(call, store, |store, classes| {
-            let before = store.counts[count::TIE_NUMBERS..].to_vec();
+            let before = store.counts[count::TIE_NUMBERS..count::LOADS].to_vec();
             let answer = take_step(store, classes);
-            store.counts[count::TIE_NUMBERS..].copy_from_slice(&before);
+            store.counts[count::TIE_NUMBERS..count::LOADS].copy_from_slice(&before);
             answer
         })
     }),
     ("boot-clears-the-numbers", |call, store, _| {
         let is_booted = *call == Call::Boot && call.apply(store) == Reply::Accepted;
         is_booted.then(|| {
-            store.counts[count::TIE_NUMBERS..].fill(0);
+            store.counts[count::TIE_NUMBERS..count::LOADS].fill(0);
             Reply::Accepted
         })
     }),

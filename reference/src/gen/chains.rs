@@ -31,12 +31,13 @@ pub fn chains(seed: u64, turns: usize) -> Trial {
 
 impl Chains {
     fn turn(&mut self) {
-        match self.rng.weighted(&[3, 3, 3, 4, 1]) {
+        match self.rng.weighted(&[3, 3, 3, 4, 1, 1]) {
             0 => self.tie(),
             1 => self.subtype(),
             2 => self.define(),
             3 => self.record(),
-            _ => self.access(),
+            4 => self.access(),
+            _ => drop(self.trial.take_back()),
         }
     }
 

@@ -11,26 +11,27 @@ use super::loops::{spinning, unset_at_a_join, waiting};
 use super::numbers::{has_wrong_numbers, renumber, wrong_numbers};
 use super::objects::{a_share, all_in_use, an_owner, free_rows, is_past_the_share, links, many_objects, unused_number};
 use super::rng::Rng;
+use super::traces::{a_trace, closed, has_wrong_trace, wrongs_in_turn, Wrong};
 use super::unverified::{has_unverified, jumps_out, map_bytes, other_version, unseen_calls, unseen_jumps, unseen_rates};
 use super::{Call, Trial};
 use crate::file::File;
 use crate::store::{cell, count, frame_base, Store};
-use crate::store::{FIELDS, FRAME_ROW, INT, LENGTHS, LIMITS, OBJECT, OBJECT_ROW, REPORT, ROW, SHARE, TASKS};
+use crate::store::{FIELDS, FRAME_ROW, INT, LENGTHS, LIMITS, OBJECT, OBJECT_ROW, MOST_LOADS, REPORT, ROW, SHARE, TASKS};
 
 /// Kinds of damage, each a way to change a good store.
-const KINDS: [fn(&mut Rng, &mut Store); 38] = [
+const KINDS: [fn(&mut Rng, &mut Store); 42] = [
     any_cells, a_count, uniform_table, wrong_length, second_cache_row, overlapping_files, superclass_not_lower,
     code_bytes, kept_byte, top_frame, operand_count, a_value, constraints, full_frames, uniform_store, file_place,
     nested_file, full_rows, many_fields, many_fields, hidden_fields, hidden_fields, many_classes, report_past_its_code, an_owner, free_rows,
     unused_number, links, many_objects, unseen_jumps, unseen_jumps, unseen_jumps, other_version, map_bytes,
-    unseen_rates, unseen_calls, a_share, a_share,
+    unseen_rates, unseen_calls, a_share, a_share, a_trace, a_trace, a_trace, a_trace,
 ];
 
 /// What a damaged store may have, and the test for it.
 pub type Shape = (&'static str, fn(&Store) -> bool);
 
 /// What damaged stores must have among them.
-pub const SHAPES: [Shape; 18] = [
+pub const SHAPES: [Shape; 26] = [
     ("a class of more than 16 fields", |store| classes(store).iter().any(|&class| field_names(store, class).len() > FIELDS)),
     ("a field's name repeated below", |store| has_repeated_field(store, 2)),
     ("a field's name in three classes", |store| has_repeated_field(store, 3)),
@@ -45,6 +46,14 @@ pub const SHAPES: [Shape; 18] = [
     ("192 of the report's objects", |store| is_whole(store) && store.made_by(REPORT) == SHARE),
     ("192 of the report's objects among 256", |store| is_whole(store) && store.made_by(REPORT) == SHARE && store.unused_object().is_none()),
     ("193 of the report's objects and more, and nothing else", is_past_the_share),
+    ("a trace of loads", |store| is_whole(store) && store.count(count::LOADS) > 0),
+    ("a trace of 32 loads", |store| is_whole(store) && store.count(count::LOADS) == MOST_LOADS),
+    ("a trace that is wrong, and nothing else", has_wrong_trace),
+    ("a trace that needs rows alone", |store| is_wrong(store, &[Wrong::Rows])),
+    ("a trace that cuts a superclass's entry alone", |store| is_wrong(store, &[Wrong::Superclasses])),
+    ("a trace that cuts an entry's class alone", |store| is_wrong(store, &[Wrong::Entries])),
+    ("a trace that cuts files alone", |store| is_wrong(store, &[Wrong::Files])),
+    ("a trace that cuts numbers alone", |store| is_wrong(store, &[Wrong::Numbers])),
     ("a file of version 2 that define refuses", has_unverified),
     ("a jump out of the code", jumps_out),
     ("wrong numbers of constraints, and nothing else", has_wrong_numbers),
@@ -53,10 +62,19 @@ pub const SHAPES: [Shape; 18] = [
     }),
 ];
 
+/// Is the trace wrong for this alone, where nothing else is?
+fn is_wrong(store: &Store, wrongs: &[Wrong]) -> bool {
+    has_wrong_trace(store) && store.count(count::LOADS) <= MOST_LOADS && wrongs_in_turn(store) == wrongs
+}
+
 /// A store from a boot with some damage, from one change to three.
 pub fn damaged(seed: u64) -> Store {
     let mut rng = Rng::new(seed ^ 0x64_61_6D_61);
     let mut store = good(seed, &mut rng);
+    // Other damage is mostly done where no load can be taken back.
+    if rng.percent(80) {
+        store = closed(&store);
+    }
     for _ in 0..rng.pick(&[1, 1, 2, 3]) {
         let kind = rng.below(KINDS.len());
         KINDS[kind](&mut rng, &mut store);
@@ -115,6 +133,7 @@ pub fn probes(seed: u64, store: &Store) -> Vec<Call> {
     let int = rng.draw() as u32;
     vec![
         Call::Boot,
+        Call::TakeBack,
         Call::Define { loader: other, file: draft.file() },
         Call::Define { loader: loader.into(), file: Draft::new(rng.within(2, 30) as u16).file() },
         Call::Record { loader: other, name: name.into(), class: class.into() },
@@ -126,6 +145,9 @@ pub fn probes(seed: u64, store: &Store) -> Vec<Call> {
         Call::Run { n: if rng.percent(40) { rng.word().into() } else { rng.within(0, 40) as u32 } },
         Call::Drop { task: rng.below(3) as u32 },
         Call::Sweep,
+        Call::TakeBack,
+        Call::Record { loader: 15, name: OBJECT.into(), class: 0 },
+        Call::TakeBack,
     ]
 }
 
@@ -228,6 +250,7 @@ fn uniform_store(rng: &mut Rng, store: &mut Store) {
         for (count, limit) in store.counts.iter_mut().zip(LIMITS) {
             *count = rng.below(usize::from(limit) + 1) as u16;
         }
+        store.counts[count::LOADS] = rng.pick(&[0, 0, 1, 32]);
     }
 }
 
@@ -423,7 +446,7 @@ fn a_value(rng: &mut Rng, store: &mut Store) {
 }
 
 /// Constraints that nobody posted; the store may disagree with them.
-fn constraints(rng: &mut Rng, store: &mut Store) {
+pub fn constraints(rng: &mut Rng, store: &mut Store) {
     if !is_whole(store) {
         return;
     }

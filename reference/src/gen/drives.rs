@@ -8,6 +8,7 @@ use super::list::list;
 use super::listed;
 use super::rng::Rng;
 use super::shares::shared;
+use super::taken::taking;
 use super::{Call, Trial};
 use crate::answer::{denied, word};
 use crate::drive::{ANSWERS, HEAD, INPUT, LIST, ROW};
@@ -55,6 +56,7 @@ impl Encoded {
                 [8, loader, start, size, n, 0]
             }
             Call::TryRecord { loader, name, class, .. } => [9, loader, name, class, n, 0],
+            Call::TakeBack => [10, 0, 0, 0, 0, 0],
         };
         self.rows.push(row);
     }
@@ -88,7 +90,7 @@ fn trying(trial: &Trial, rng: &mut Rng) -> Vec<Call> {
 /// A row that has no call: no kind, a file past the input's end, a name or a method that isn't 16 bits.
 fn no_call(rng: &mut Rng) -> [u32; ROW] {
     match rng.below(5) {
-        0 => [10 + rng.below(3) as u32, 1, 2, 0, 512, 0],
+        0 => [11 + rng.below(3) as u32, 1, 2, 0, 512, 0],
         1 => [u32::MAX, 0, 0, 0, 0, 0],
         2 => [rng.pick(&[1, 8]), 1, rng.pick(&[0, 12, u32::MAX]), rng.pick(&[65_537, u32::MAX]), rng.pick(&LISTS), 0],
         3 => [3, 0, 1, 0x1_000A, 20, 7],
@@ -96,8 +98,8 @@ fn no_call(rng: &mut Rng) -> [u32; ROW] {
     }
 }
 
-/// A list of calls of every kind, a product, a quotient by 0, a hidden field, and a load that is accepted and one that clashes tried among them; from further boots,
-/// methods with 0 to 4 arguments, an inline count of 5, an override and a call that tie each argument; then a row that has no call, then one that is not reached.
+/// A list of calls of every kind, a product, a quotient by 0, a hidden field, and a load that is accepted and one that clashes tried among them; from further boots, a
+/// load that is taken back, methods with 0 to 4 arguments, an inline count of 5, an override and a call that tie each argument; then a row that has no call, then one that is not reached.
 pub fn fixed() -> Vec<u8> {
     let mut trial = cases::across(&cases::caller(), true, false);
     trial.run(3);
@@ -133,7 +135,7 @@ pub fn fixed() -> Vec<u8> {
         calls.extend([512, 511, u32::MAX, 0].into_iter().filter_map(|cells| load.tried(cells as usize)));
         calls.push(load);
     }
-    calls.extend([Call::Boot, Call::Step]);
+    calls.extend([Call::Boot, Call::Record { loader: 1, name: 2, class: 0 }, Call::Step, Call::TakeBack, Call::TakeBack]);
     let mut numbers = listed::numbers();
     let code = Code::listed().aload(0).call(18, 21, &[INT; 5], INT).ireturn();
     numbers.define(1, &Draft::listed(18).main(MAIN, &code));
@@ -142,7 +144,7 @@ pub fn fixed() -> Vec<u8> {
         calls.extend(trial.calls);
     }
     let mut encoded = Encoded::new(&calls, 2);
-    encoded.rows.push([10, 0, 0, 0, 0, 0]);
+    encoded.rows.push([11, 0, 0, 0, 0, 0]);
     encoded.rows.push([0; ROW]);
     encoded.input(LENGTHS[0] as u32, ROW * encoded.rows.len(), ANSWERS as u32)
 }
@@ -151,11 +153,12 @@ pub fn fixed() -> Vec<u8> {
 pub fn drive(seed: u64) -> Vec<u8> {
     let mut rng = Rng::new(seed ^ 0x64_72_69_76);
     let length = rng.within(5, 90);
-    let trial = match rng.weighted(&[4, 2, 4, 2]) {
+    let trial = match rng.weighted(&[4, 2, 14, 2, 2]) {
         0 => list(seed, length),
         1 => graphs(seed, length),
         2 => chains(seed, length / 2),
-        _ => shared(seed, length / 2),
+        3 => shared(seed, length / 2),
+        _ => taking(seed, length / 3),
     };
     let mut calls = trying(&trial, &mut rng);
     let room = |calls: &[Call]| Encoded::new(calls, 1).files.len() + 4 * (HEAD + LIST) <= INPUT;

@@ -46,7 +46,7 @@ impl Lister {
 
     fn next(&mut self) {
         let idle = self.trial.store.turn().is_none();
-        let weights = if idle { [6, 2, 24, 2, 1, 1, 2, 3] } else { [5, 2, 3, 26, 14, 1, 3, 3] };
+        let weights = if idle { [6, 2, 24, 2, 1, 1, 2, 3, 1] } else { [5, 2, 3, 26, 14, 1, 3, 3, 1] };
         match self.rng.weighted(&weights) {
             0 => self.load_something(),
             1 => self.record_something(),
@@ -58,7 +58,8 @@ impl Lister {
                 self.trial.drop_task(task);
             }
             6 => drop(self.trial.sweep()),
-            _ => self.stray(),
+            7 => self.stray(),
+            _ => drop(self.trial.take_back()),
         }
     }
 

@@ -34,6 +34,8 @@ pub mod shares;
 pub mod spoils;
 pub mod stuck;
 pub mod swept;
+pub mod taken;
+pub mod traces;
 pub mod unverified;
 pub mod walk;
 
@@ -42,7 +44,7 @@ use crate::breaks::breaks;
 use crate::load::{judge, plan_define, plan_record, Plan};
 use crate::reason::chain;
 use crate::store::{Store, MOST_ROWS};
-use crate::{boot, define, drop_task, record, run, start, step, sweep, try_define, try_record};
+use crate::{boot, define, drop_task, record, run, start, step, sweep, take_back, try_define, try_record};
 
 /// One call with its arguments.
 #[derive(Clone, Debug, PartialEq, Eq)]
@@ -58,9 +60,11 @@ pub enum Call {
     /// The tries of a define and of a record, each with a list of so many cells.
     TryDefine { loader: u32, file: Vec<u8>, cells: usize },
     TryRecord { loader: u32, name: u32, class: u32, cells: usize },
+    TakeBack,
 }
 
-pub const CALLS: [&str; 10] = ["boot", "define", "record", "start", "step", "run", "drop", "sweep", "try define", "try record"];
+pub const CALLS: [&str; 11] =
+    ["boot", "define", "record", "start", "step", "run", "drop", "sweep", "try define", "try record", "take back"];
 
 impl Call {
     /// The call's place in `CALLS`.
@@ -76,6 +80,7 @@ impl Call {
             Call::Sweep => 7,
             Call::TryDefine { .. } => 8,
             Call::TryRecord { .. } => 9,
+            Call::TakeBack => 10,
         }
     }
 
@@ -146,6 +151,7 @@ impl Call {
             Call::Run { n } => run(store, n),
             Call::Drop { task } => drop_task(store, task),
             Call::Sweep => sweep(store),
+            Call::TakeBack => take_back(store),
         }
     }
 }
@@ -208,6 +214,10 @@ impl Trial {
 
     pub fn sweep(&mut self) -> Reply {
         self.call(Call::Sweep)
+    }
+
+    pub fn take_back(&mut self) -> Reply {
+        self.call(Call::TakeBack)
     }
 
     /// What its runs ended with: an int or a word.

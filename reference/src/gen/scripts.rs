@@ -21,11 +21,11 @@ pub fn script(seed: u64) -> Vec<u8> {
     bytes
 }
 
-/// A call as lines; a run as some steps, a boot, a sweep and a try as none.
+/// A call as lines; a run as some steps, a boot, a sweep, a try and a taking back as none.
 fn lines(rng: &mut Rng, call: &Call) -> Vec<String> {
     let zeros = if rng.percent(5) { "00" } else { "" };
     match *call {
-        Call::Boot | Call::Sweep | Call::TryDefine { .. } | Call::TryRecord { .. } => vec![],
+        Call::Boot | Call::Sweep | Call::TryDefine { .. } | Call::TryRecord { .. } | Call::TakeBack => vec![],
         Call::Run { n } => vec!["N".into(); n.min(20) as usize],
         Call::Step => vec!["N".into()],
         Call::Drop { task } => vec![format!("X {zeros}{task}")],

@@ -74,10 +74,19 @@ returns-10 c =
     let at1 = c .before .before .before .before .before .before .before .before .before .before in
     rw (at1 .call7 .given .1) (c .try-record .ensures)
 
+returns-11 : tie.Need-returns-11
+unfolding callOf
+returns-11 c =
+    let at1 = c .before .before in
+    let at2 = at1 .before .before .before .before .before .before .before .before .before in
+    rw (at2 .enum-told4 .given .1) (at1 .take-back .ensures)
+
 pub perform-spec : {M : Type 1} → statement M
 perform-spec =
     tie.close
     (tie.spec
+    (λ c. search needs)
+    (λ c κs. search needs)
     (λ c. search needs)
     (λ c κs. search needs)
     (λ c. search needs)
@@ -187,4 +196,13 @@ perform-spec =
     (λ c. search needs)
     (λ c. search needs)
     (λ c. search needs)
-    returns-10)
+    returns-10
+    (λ c. search needs)
+    (λ c. search needs)
+    (λ c. search needs)
+    (λ c. search needs)
+    (λ c. search needs)
+    (λ c. search needs)
+    (λ c. search needs)
+    (λ c. search needs)
+    returns-11)

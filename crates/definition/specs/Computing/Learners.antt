@@ -13,15 +13,16 @@ use Rattle.definition.specs.Instructions.{pick, opcodeOf, inlineLength, 
 use Rattle.definition.specs.Verifier.{typeOfName, meetClass, meetInt, meets, meetKind, pop, popAll, effect, returns, returnKind, target, goesOn, mapAt, localType, meetLocal, meetAll, meetMap, flowInto, flowToTarget, startAt, after, turn, mapsPast, verify, typesAt, unmappedFrom, unmapped, notesOfMethod, notesOf}
 use Rattle.definition.specs.Machine.{objectHeld, existing, unused, made, rewritten, changed, roomless, shareUsed, madeBy, initialValue, newObject, pop!, popAll!, int!, reference!, ofKind!, kind!, kinds!, compute, jumps, room!, object!, now, under!, give, execute, step}
 use Rattle.definition.specs.Loading.{subtypeIs, newSubtypes, overrideTie, overrideTies, define, recorded, started}
-use Rattle.definition.specs.Tables.{fileAt, classAt}
-use Rattle.definition.specs.Calls.{defineRows, recordRows, startRows, dropRows, answerOf, stepTask, stepOn, stepRows, carried}
+use Rattle.definition.specs.Tables.{cutTo, fileAt, classAt}
+use Rattle.definition.specs.Sweeping.{roots, linksFrom, reached, sweptFrom, freedFrom}
+use Rattle.definition.specs.Calls.{defineRows, entryTrace, recordRows, startRows, dropRows, sweepRows, takenBack, answerOf, stepTask, stepOn, stepRows, carried}
 use Rattle.definition.specs.Answers.{refused, number, numberOfStep, numberOf, _>>=_, need, take?}
 use Rattle.definition.specs.Computing.OnRows.{settle, onRows, runRows, performRows, performAllRows}
 use Rattle.definition.specs.Computing.Samples.{two, method, ints, fielded, into, from, fileOf, plain, fileF, taker, coded, lifts, pushes, ready, tied12, tied123}
 use Rattle.definition.specs.Maybe as Maybe
 use Rattle.definition.specs.Answers.{Refusal, Finished, Accepted, Defined, RanFor, Denied}
 use Rattle.definition.specs.Tables.{Tables, rowNumbers}
-use Rattle.definition.specs.Calls.{bootRows, numberedOn, Call, callDefine, callRecord, callStart, callRun}
+use Rattle.definition.specs.Calls.{bootRows, numberedOn, Call, callDefine, callRecord, callStart, callRun, callSweep, callTakeBack}
 
 -- the numbers of the answers to the calls, from a boot
 unfoldable numbers : List Call → List ℕ
@@ -29,18 +30,18 @@ numbers cs = map numberOf (performAllRows cs bootRows .answer)
 
 -- Not only the constraints that touch the new request: (1,12) and (3,12) are joined through (2,12), which is not loaded
 chain : numbers (tied123 ++ callDefine 1 (plain 12 2) ∷ callDefine 3 (plain 12 2) ∷ []) ≡ 0 ∷ 0 ∷ 0 ∷ 0 ∷ 0 ∷ 0 ∷ 0 ∷ 0 ∷ 0 ∷ 9 ∷ []
-unfolding numbers every all any doubled indexOf isNone toList sameList filled sameRequest has fires rest grow reachFrom reach leads seek nearest below find lower superOf loaderOf ownSlots slotsIn slots slotIs hasField sameSignature alike methodsOf hasMethod selected tieEdges subtypeEdges edges pairAgrees rowAgrees agreesOver agrees tieIs newTie newTies signatureTies agreesAfter post byte short name count fieldsIn oneIn argumentsIn signatureIn namesIn mapIn mapsFrom mapsIn methodsIn ends sameField sameMethod readFile pick opcodeOf inlineLength shortAt extend instructionOf sizedAs decode typeOfName meetClass meetInt meets meetKind pop popAll isNamed effect returns returnKind target goesOn mapAt localType meetLocal meetAll meetMap flowInto flowToTarget startAt after turn mapsPast verify typesAt unmappedFrom unmapped notesOf existing unused roomless shareUsed madeBy initialValue newObject pop! popAll! int! reference! kind! kinds! room! object! now under! give execute step subtypeIs newSubtypes overrideTie overrideTies define recorded started fileAt classAt defineRows recordRows startRows dropRows answerOf stepTask stepOn stepRows number numberOfStep numberOf _>>=_ need take? settle onRows runRows performRows performAllRows two method fileOf plain fileF taker coded lifts pushes ready tied12 tied123 Maybe._>>=_ Maybe.need notesOfMethod ofKind! compute jumps
+unfolding numbers every all any doubled indexOf isNone toList sameList filled sameRequest has fires rest grow reachFrom reach leads seek nearest below find lower superOf loaderOf ownSlots slotsIn slots slotIs hasField sameSignature alike methodsOf hasMethod selected tieEdges subtypeEdges edges pairAgrees rowAgrees agreesOver agrees tieIs newTie newTies signatureTies agreesAfter post byte short name count fieldsIn oneIn argumentsIn signatureIn namesIn mapIn mapsFrom mapsIn methodsIn ends sameField sameMethod readFile pick opcodeOf inlineLength shortAt extend instructionOf sizedAs decode typeOfName meetClass meetInt meets meetKind pop popAll isNamed effect returns returnKind target goesOn mapAt localType meetLocal meetAll meetMap flowInto flowToTarget startAt after turn mapsPast verify typesAt unmappedFrom unmapped notesOf existing unused roomless shareUsed madeBy initialValue newObject pop! popAll! int! reference! kind! kinds! room! object! now under! give execute step subtypeIs newSubtypes overrideTie overrideTies define recorded started fileAt classAt defineRows entryTrace recordRows startRows dropRows answerOf stepTask stepOn stepRows number numberOfStep numberOf _>>=_ need take? settle onRows runRows performRows performAllRows two method fileOf plain fileF taker coded lifts pushes ready tied12 tied123 Maybe._>>=_ Maybe.need notesOfMethod ofKind! compute jumps
 chain = refl
 
 -- nor only upward from it: (1,13) leads to (2,12) through (1,12), which is not loaded
 upward : numbers (tied12 ++ callDefine 1 lifts ∷ callDefine 2 (plain 12 2) ∷ callDefine 1 (plain 13 2) ∷ []) ≡ 0 ∷ 0 ∷ 0 ∷ 0 ∷ 0 ∷ 0 ∷ 0 ∷ 0 ∷ 9 ∷ []
-unfolding numbers every all any doubled indexOf isNone toList sameList filled sameRequest has fires rest grow reachFrom reach leads seek nearest below find lower superOf loaderOf ownSlots slotsIn slots slotIs hasField sameSignature alike methodsOf hasMethod selected tieEdges subtypeEdges edges pairAgrees rowAgrees agreesOver agrees tieIs newTie newTies signatureTies agreesAfter post byte short name count fieldsIn oneIn argumentsIn signatureIn namesIn mapIn mapsFrom mapsIn methodsIn ends sameField sameMethod readFile pick opcodeOf inlineLength shortAt extend instructionOf sizedAs decode typeOfName meetClass meetInt meets meetKind pop popAll isNamed effect returns returnKind target goesOn mapAt localType meetLocal meetAll meetMap flowInto flowToTarget startAt after turn mapsPast verify typesAt unmappedFrom unmapped notesOf existing unused roomless shareUsed madeBy initialValue newObject pop! popAll! int! reference! kind! kinds! room! object! now under! give execute step subtypeIs newSubtypes overrideTie overrideTies define recorded started fileAt classAt defineRows recordRows startRows dropRows answerOf stepTask stepOn stepRows number numberOfStep numberOf _>>=_ need take? settle onRows runRows performRows performAllRows two method fileOf plain fileF taker coded lifts pushes ready tied12 tied123 Maybe._>>=_ Maybe.need notesOfMethod ofKind! compute jumps
+unfolding numbers every all any doubled indexOf isNone toList sameList filled sameRequest has fires rest grow reachFrom reach leads seek nearest below find lower superOf loaderOf ownSlots slotsIn slots slotIs hasField sameSignature alike methodsOf hasMethod selected tieEdges subtypeEdges edges pairAgrees rowAgrees agreesOver agrees tieIs newTie newTies signatureTies agreesAfter post byte short name count fieldsIn oneIn argumentsIn signatureIn namesIn mapIn mapsFrom mapsIn methodsIn ends sameField sameMethod readFile pick opcodeOf inlineLength shortAt extend instructionOf sizedAs decode typeOfName meetClass meetInt meets meetKind pop popAll isNamed effect returns returnKind target goesOn mapAt localType meetLocal meetAll meetMap flowInto flowToTarget startAt after turn mapsPast verify typesAt unmappedFrom unmapped notesOf existing unused roomless shareUsed madeBy initialValue newObject pop! popAll! int! reference! kind! kinds! room! object! now under! give execute step subtypeIs newSubtypes overrideTie overrideTies define recorded started fileAt classAt defineRows entryTrace recordRows startRows dropRows answerOf stepTask stepOn stepRows number numberOfStep numberOf _>>=_ need take? settle onRows runRows performRows performAllRows two method fileOf plain fileF taker coded lifts pushes ready tied12 tied123 Maybe._>>=_ Maybe.need notesOfMethod ofKind! compute jumps
 upward = refl
 
 -- The superclass of 41 is looked up under loader 2, its defining loader, which means another class by 40 than loader 3, under which 41 is started
 supers : numbers (ready ++ callDefine 1 (coded (0x15 ∷ 1 ∷ 0xAC ∷ [])) ∷ callRecord 2 10 1 ∷ callDefine 2 (plain 41 10) ∷ callDefine 3 (plain 10 2) ∷ callRecord 3 41 2 ∷ callStart 0 3 41 20 5 ∷ [])
     ≡ 0 ∷ 0 ∷ 0 ∷ 0 ∷ 0 ∷ 0 ∷ 0 ∷ 0 ∷ 0 ∷ []
-unfolding numbers every all any doubled indexOf isNone toList sameList filled sameRequest has fires rest grow reachFrom reach leads seek nearest below find lower superOf loaderOf ownSlots slotsIn slots slotIs hasField sameSignature alike methodsOf hasMethod selected tieEdges subtypeEdges edges pairAgrees rowAgrees agreesOver agrees tieIs newTie newTies signatureTies agreesAfter post byte short name count fieldsIn oneIn argumentsIn signatureIn namesIn mapIn mapsFrom mapsIn methodsIn ends sameField sameMethod readFile pick opcodeOf inlineLength shortAt extend instructionOf sizedAs decode typeOfName meetClass meetInt meets meetKind pop popAll isNamed effect returns returnKind target goesOn mapAt localType meetLocal meetAll meetMap flowInto flowToTarget startAt after turn mapsPast verify typesAt unmappedFrom unmapped notesOf existing unused roomless shareUsed madeBy initialValue newObject pop! popAll! int! reference! kind! kinds! room! object! now under! give execute step subtypeIs newSubtypes overrideTie overrideTies define recorded started fileAt classAt defineRows recordRows startRows dropRows answerOf stepTask stepOn stepRows number numberOfStep numberOf _>>=_ need take? settle onRows runRows performRows performAllRows two method fileOf plain fileF taker coded lifts pushes ready tied12 tied123 Maybe._>>=_ Maybe.need notesOfMethod ofKind! compute jumps
+unfolding numbers every all any doubled indexOf isNone toList sameList filled sameRequest has fires rest grow reachFrom reach leads seek nearest below find lower superOf loaderOf ownSlots slotsIn slots slotIs hasField sameSignature alike methodsOf hasMethod selected tieEdges subtypeEdges edges pairAgrees rowAgrees agreesOver agrees tieIs newTie newTies signatureTies agreesAfter post byte short name count fieldsIn oneIn argumentsIn signatureIn namesIn mapIn mapsFrom mapsIn methodsIn ends sameField sameMethod readFile pick opcodeOf inlineLength shortAt extend instructionOf sizedAs decode typeOfName meetClass meetInt meets meetKind pop popAll isNamed effect returns returnKind target goesOn mapAt localType meetLocal meetAll meetMap flowInto flowToTarget startAt after turn mapsPast verify typesAt unmappedFrom unmapped notesOf existing unused roomless shareUsed madeBy initialValue newObject pop! popAll! int! reference! kind! kinds! room! object! now under! give execute step subtypeIs newSubtypes overrideTie overrideTies define recorded started fileAt classAt defineRows entryTrace recordRows startRows dropRows answerOf stepTask stepOn stepRows number numberOfStep numberOf _>>=_ need take? settle onRows runRows performRows performAllRows two method fileOf plain fileF taker coded lifts pushes ready tied12 tied123 Maybe._>>=_ Maybe.need notesOfMethod ofKind! compute jumps
 supers = refl
 
 -- A method that overrides across loaders ties its argument (12) and its result (13): later loads are held to both
@@ -49,18 +50,18 @@ returning n s = fileOf n s 1 (method 30 12 13 (0x01 ∷ 0xB0 ∷ []))
 
 overrides : numbers (ready ++ callDefine 1 (returning 40 2) ∷ callRecord 2 40 1 ∷ callDefine 2 (returning 41 40) ∷ callDefine 1 (plain 12 2) ∷ callDefine 2 (plain 12 2) ∷ callDefine 1 (plain 13 2) ∷ callDefine 2 (plain 13 2) ∷ [])
     ≡ 0 ∷ 0 ∷ 0 ∷ 0 ∷ 0 ∷ 0 ∷ 0 ∷ 9 ∷ 0 ∷ 9 ∷ []
-unfolding numbers returning every all any doubled indexOf isNone toList sameList filled sameRequest has fires rest grow reachFrom reach leads seek nearest below find lower superOf loaderOf ownSlots slotsIn slots slotIs hasField sameSignature alike methodsOf hasMethod selected tieEdges subtypeEdges edges pairAgrees rowAgrees agreesOver agrees tieIs newTie newTies signatureTies agreesAfter post byte short name count fieldsIn oneIn argumentsIn signatureIn namesIn mapIn mapsFrom mapsIn methodsIn ends sameField sameMethod readFile pick opcodeOf inlineLength shortAt extend instructionOf sizedAs decode typeOfName meetClass meetInt meets meetKind pop popAll isNamed effect returns returnKind target goesOn mapAt localType meetLocal meetAll meetMap flowInto flowToTarget startAt after turn mapsPast verify typesAt unmappedFrom unmapped notesOf existing unused roomless shareUsed madeBy initialValue newObject pop! popAll! int! reference! kind! kinds! room! object! now under! give execute step subtypeIs newSubtypes overrideTie overrideTies define recorded started fileAt classAt defineRows recordRows startRows dropRows answerOf stepTask stepOn stepRows number numberOfStep numberOf _>>=_ need take? settle onRows runRows performRows performAllRows two method fileOf plain fileF taker coded lifts pushes ready tied12 tied123 Maybe._>>=_ Maybe.need notesOfMethod ofKind! compute jumps
+unfolding numbers returning every all any doubled indexOf isNone toList sameList filled sameRequest has fires rest grow reachFrom reach leads seek nearest below find lower superOf loaderOf ownSlots slotsIn slots slotIs hasField sameSignature alike methodsOf hasMethod selected tieEdges subtypeEdges edges pairAgrees rowAgrees agreesOver agrees tieIs newTie newTies signatureTies agreesAfter post byte short name count fieldsIn oneIn argumentsIn signatureIn namesIn mapIn mapsFrom mapsIn methodsIn ends sameField sameMethod readFile pick opcodeOf inlineLength shortAt extend instructionOf sizedAs decode typeOfName meetClass meetInt meets meetKind pop popAll isNamed effect returns returnKind target goesOn mapAt localType meetLocal meetAll meetMap flowInto flowToTarget startAt after turn mapsPast verify typesAt unmappedFrom unmapped notesOf existing unused roomless shareUsed madeBy initialValue newObject pop! popAll! int! reference! kind! kinds! room! object! now under! give execute step subtypeIs newSubtypes overrideTie overrideTies define recorded started fileAt classAt defineRows entryTrace recordRows startRows dropRows answerOf stepTask stepOn stepRows number numberOfStep numberOf _>>=_ need take? settle onRows runRows performRows performAllRows two method fileOf plain fileF taker coded lifts pushes ready tied12 tied123 Maybe._>>=_ Maybe.need notesOfMethod ofKind! compute jumps
 overrides = refl
 
 -- A define's notes are posted before its ties: here 12 below 13 gets number 0, the ties on 12 and 13 get 1 and 2
 notes-first : performAllRows (ready ++ callDefine 1 (returning 40 2) ∷ callRecord 2 40 1 ∷ callDefine 2 (fileOf 41 40 1 (method 30 12 13 (0x19 ∷ 1 ∷ 0xB0 ∷ []))) ∷ []) bootRows .rows .numbers
     ≡ rowNumbers (1 ∷ 2 ∷ []) (0 ∷ [])
-unfolding rows numberedOn returning every all any doubled indexOf isNone toList sameList filled sameRequest has fires rest grow reachFrom reach leads seek nearest below find lower superOf loaderOf ownSlots slotsIn slots slotIs hasField sameSignature alike methodsOf hasMethod selected tieEdges subtypeEdges edges pairAgrees rowAgrees agreesOver agrees tieIs newTie newTies signatureTies agreesAfter post byte short name count fieldsIn oneIn argumentsIn signatureIn namesIn mapIn mapsFrom mapsIn methodsIn ends sameField sameMethod readFile pick opcodeOf inlineLength shortAt extend instructionOf sizedAs decode typeOfName meetClass meetInt meets meetKind pop popAll isNamed effect returns returnKind target goesOn mapAt localType meetLocal meetAll meetMap flowInto flowToTarget startAt after turn mapsPast verify typesAt unmappedFrom unmapped notesOf existing unused roomless shareUsed madeBy initialValue newObject pop! popAll! int! reference! kind! kinds! room! object! now under! give execute step subtypeIs newSubtypes overrideTie overrideTies define recorded started fileAt classAt defineRows recordRows startRows dropRows answerOf stepTask stepOn stepRows number numberOfStep numberOf _>>=_ need take? settle onRows runRows performRows performAllRows two method fileOf plain fileF taker coded lifts pushes ready tied12 tied123 Maybe._>>=_ Maybe.need notesOfMethod ofKind! compute jumps
+unfolding rows numberedOn returning every all any doubled indexOf isNone toList sameList filled sameRequest has fires rest grow reachFrom reach leads seek nearest below find lower superOf loaderOf ownSlots slotsIn slots slotIs hasField sameSignature alike methodsOf hasMethod selected tieEdges subtypeEdges edges pairAgrees rowAgrees agreesOver agrees tieIs newTie newTies signatureTies agreesAfter post byte short name count fieldsIn oneIn argumentsIn signatureIn namesIn mapIn mapsFrom mapsIn methodsIn ends sameField sameMethod readFile pick opcodeOf inlineLength shortAt extend instructionOf sizedAs decode typeOfName meetClass meetInt meets meetKind pop popAll isNamed effect returns returnKind target goesOn mapAt localType meetLocal meetAll meetMap flowInto flowToTarget startAt after turn mapsPast verify typesAt unmappedFrom unmapped notesOf existing unused roomless shareUsed madeBy initialValue newObject pop! popAll! int! reference! kind! kinds! room! object! now under! give execute step subtypeIs newSubtypes overrideTie overrideTies define recorded started fileAt classAt defineRows entryTrace recordRows startRows dropRows answerOf stepTask stepOn stepRows number numberOfStep numberOf _>>=_ need take? settle onRows runRows performRows performAllRows two method fileOf plain fileF taker coded lifts pushes ready tied12 tied123 Maybe._>>=_ Maybe.need notesOfMethod ofKind! compute jumps
 notes-first = refl
 
 -- Two classes of one name are two classes
 names : numbers (tied12 ++ callDefine 1 (plain 12 2) ∷ callDefine 3 (plain 12 2) ∷ callRecord 2 12 4 ∷ callRecord 2 12 3 ∷ []) ≡ 0 ∷ 0 ∷ 0 ∷ 0 ∷ 0 ∷ 0 ∷ 0 ∷ 0 ∷ 9 ∷ 0 ∷ []
-unfolding numbers every all any doubled indexOf isNone toList sameList filled sameRequest has fires rest grow reachFrom reach leads seek nearest below find lower superOf loaderOf ownSlots slotsIn slots slotIs hasField sameSignature alike methodsOf hasMethod selected tieEdges subtypeEdges edges pairAgrees rowAgrees agreesOver agrees tieIs newTie newTies signatureTies agreesAfter post byte short name count fieldsIn oneIn argumentsIn signatureIn namesIn mapIn mapsFrom mapsIn methodsIn ends sameField sameMethod readFile pick opcodeOf inlineLength shortAt extend instructionOf sizedAs decode typeOfName meetClass meetInt meets meetKind pop popAll isNamed effect returns returnKind target goesOn mapAt localType meetLocal meetAll meetMap flowInto flowToTarget startAt after turn mapsPast verify typesAt unmappedFrom unmapped notesOf existing unused roomless shareUsed madeBy initialValue newObject pop! popAll! int! reference! kind! kinds! room! object! now under! give execute step subtypeIs newSubtypes overrideTie overrideTies define recorded started fileAt classAt defineRows recordRows startRows dropRows answerOf stepTask stepOn stepRows number numberOfStep numberOf _>>=_ need take? settle onRows runRows performRows performAllRows two method fileOf plain fileF taker coded lifts pushes ready tied12 tied123 Maybe._>>=_ Maybe.need notesOfMethod ofKind! compute jumps
+unfolding numbers every all any doubled indexOf isNone toList sameList filled sameRequest has fires rest grow reachFrom reach leads seek nearest below find lower superOf loaderOf ownSlots slotsIn slots slotIs hasField sameSignature alike methodsOf hasMethod selected tieEdges subtypeEdges edges pairAgrees rowAgrees agreesOver agrees tieIs newTie newTies signatureTies agreesAfter post byte short name count fieldsIn oneIn argumentsIn signatureIn namesIn mapIn mapsFrom mapsIn methodsIn ends sameField sameMethod readFile pick opcodeOf inlineLength shortAt extend instructionOf sizedAs decode typeOfName meetClass meetInt meets meetKind pop popAll isNamed effect returns returnKind target goesOn mapAt localType meetLocal meetAll meetMap flowInto flowToTarget startAt after turn mapsPast verify typesAt unmappedFrom unmapped notesOf existing unused roomless shareUsed madeBy initialValue newObject pop! popAll! int! reference! kind! kinds! room! object! now under! give execute step subtypeIs newSubtypes overrideTie overrideTies define recorded started fileAt classAt defineRows entryTrace recordRows startRows dropRows answerOf stepTask stepOn stepRows number numberOfStep numberOf _>>=_ need take? settle onRows runRows performRows performAllRows two method fileOf plain fileF taker coded lifts pushes ready tied12 tied123 Maybe._>>=_ Maybe.need notesOfMethod ofKind! compute jumps
 names = refl
 
 -- Nothing is posted and then refused: a refusal leaves the tables as they were
@@ -76,5 +77,15 @@ hiding = ready ++ callDefine 1 (fielded 40 2 1 (ints 1 5) 0 []) ∷ callDefine 1
 
 fields : performAllRows (hiding ++ callStart 0 1 42 20 7 ∷ callRun 12 ∷ []) bootRows .answer
     ≡ Accepted ∷ Accepted ∷ Accepted ∷ Defined 1 ∷ Defined 2 ∷ Defined 3 ∷ Accepted ∷ RanFor 11 (Finished 0 5) ∷ []
-unfolding fielded into from ints hiding every all any doubled indexOf isNone toList sameList filled sameRequest has fires rest grow reachFrom reach leads seek nearest below find lower superOf loaderOf ownSlots slotsIn slots slotIs hasField sameSignature alike methodsOf hasMethod selected tieEdges subtypeEdges edges pairAgrees rowAgrees agreesOver agrees tieIs newTie newTies signatureTies agreesAfter post byte short name count fieldsIn oneIn argumentsIn signatureIn namesIn mapIn mapsFrom mapsIn methodsIn ends sameField sameMethod readFile pick opcodeOf inlineLength shortAt extend instructionOf sizedAs decode typeOfName meetClass meetInt meets meetKind pop popAll isNamed effect returns returnKind target goesOn mapAt localType meetLocal meetAll meetMap flowInto flowToTarget startAt after turn mapsPast verify typesAt unmappedFrom unmapped notesOf existing objectHeld made rewritten changed unused roomless shareUsed madeBy initialValue newObject pop! popAll! int! reference! kind! kinds! room! object! now under! give execute step subtypeIs newSubtypes overrideTie overrideTies define recorded started fileAt classAt defineRows recordRows startRows dropRows answerOf stepTask stepOn stepRows number numberOfStep numberOf _>>=_ need take? settle onRows runRows performRows performAllRows two method fileOf plain fileF taker coded lifts pushes ready tied12 tied123 Maybe._>>=_ Maybe.need notesOfMethod ofKind! compute jumps
+unfolding fielded into from ints hiding every all any doubled indexOf isNone toList sameList filled sameRequest has fires rest grow reachFrom reach leads seek nearest below find lower superOf loaderOf ownSlots slotsIn slots slotIs hasField sameSignature alike methodsOf hasMethod selected tieEdges subtypeEdges edges pairAgrees rowAgrees agreesOver agrees tieIs newTie newTies signatureTies agreesAfter post byte short name count fieldsIn oneIn argumentsIn signatureIn namesIn mapIn mapsFrom mapsIn methodsIn ends sameField sameMethod readFile pick opcodeOf inlineLength shortAt extend instructionOf sizedAs decode typeOfName meetClass meetInt meets meetKind pop popAll isNamed effect returns returnKind target goesOn mapAt localType meetLocal meetAll meetMap flowInto flowToTarget startAt after turn mapsPast verify typesAt unmappedFrom unmapped notesOf existing objectHeld made rewritten changed unused roomless shareUsed madeBy initialValue newObject pop! popAll! int! reference! kind! kinds! room! object! now under! give execute step subtypeIs newSubtypes overrideTie overrideTies define recorded started fileAt classAt defineRows entryTrace recordRows startRows dropRows answerOf stepTask stepOn stepRows number numberOfStep numberOf _>>=_ need take? settle onRows runRows performRows performAllRows two method fileOf plain fileF taker coded lifts pushes ready tied12 tied123 Maybe._>>=_ Maybe.need notesOfMethod ofKind! compute jumps
 fields = refl
+
+-- A load taken back takes the numbers of its constraints with it
+taken-numbers : performAllRows (ready ++ callDefine 1 (returning 40 2) ∷ callRecord 2 40 1 ∷ callDefine 2 (fileOf 41 40 1 (method 30 12 13 (0x19 ∷ 1 ∷ 0xB0 ∷ []))) ∷ callTakeBack ∷ []) bootRows .rows .numbers ≡ rowNumbers [] []
+unfolding rows takenBack cutTo numberedOn returning every all any doubled indexOf isNone toList sameList filled sameRequest has fires rest grow reachFrom reach leads seek nearest below find lower superOf loaderOf ownSlots slotsIn slots slotIs hasField sameSignature alike methodsOf hasMethod selected tieEdges subtypeEdges edges pairAgrees rowAgrees agreesOver agrees tieIs newTie newTies signatureTies agreesAfter post byte short name count fieldsIn oneIn argumentsIn signatureIn namesIn mapIn mapsFrom mapsIn methodsIn ends sameField sameMethod readFile pick opcodeOf inlineLength shortAt extend instructionOf sizedAs decode typeOfName meetClass meetInt meets meetKind pop popAll isNamed effect returns returnKind target goesOn mapAt localType meetLocal meetAll meetMap flowInto flowToTarget startAt after turn mapsPast verify typesAt unmappedFrom unmapped notesOf existing unused roomless shareUsed madeBy initialValue newObject pop! popAll! int! reference! kind! kinds! room! object! now under! give execute step subtypeIs newSubtypes overrideTie overrideTies define recorded started fileAt classAt defineRows entryTrace recordRows startRows dropRows answerOf stepTask stepOn stepRows number numberOfStep numberOf _>>=_ need take? settle onRows runRows performRows performAllRows two method fileOf plain fileF taker coded lifts pushes ready tied12 tied123 Maybe._>>=_ Maybe.need notesOfMethod ofKind! compute jumps
+taken-numbers = refl
+
+-- A sweep that frees nothing closes the loads before it all the same
+swept-late : numbers (callRecord 1 2 0 ∷ callSweep ∷ callTakeBack ∷ []) ≡ 0 ∷ 0 ∷ 19 ∷ []
+unfolding numbers every all any sameRequest has fires rest grow reachFrom reach leads find below tieEdges subtypeEdges edges pairAgrees rowAgrees agreesOver agrees agreesAfter recorded fileAt classAt entryTrace recordRows sweepRows takenBack cutTo linksFrom roots reached sweptFrom freedFrom number numberOf _>>=_ need take? settle onRows performRows performAllRows Maybe._>>=_ Maybe.need readFile byte
+swept-late = refl

@@ -12,7 +12,10 @@ returns-2 : tie.Need-returns-2
 returns-2 c = drop-unknown _ _ (sym (c .before .before .is-broken .ensures) ∙ c .before .if1 .left) (c .if2 .taken)
 
 returns-3 : tie.Need-returns-3
-returns-3 c = rw (c .before .before .put16 .ensures, c .before .before .before .wide32 .ensures .0) (drop-done _ _ (sym (c .before .before .before .before .before .before .before .is-broken .ensures) ∙ c .before .before .before .before .before .before .if1 .left) (c .before .before .before .before .before .if2 .left))
+returns-3 c =
+    let at6 = c .before .before .before .before .before .before in
+    let at9 = at6 .before .before .before in
+    rw (c .before .before .put162 .ensures, at6 .put16 .ensures, at6 .before .wide32 .ensures .0) (drop-done _ _ (sym (at9 .before .before .is-broken .ensures) ∙ at9 .before .if1 .left) (at9 .if2 .left))
 
 pub drop-task-spec : {M : Type 1} → statement M
-drop-task-spec = tie.close (tie.spec (λ c κs. search needs) (λ c. search needs) returns (λ c. search needs) returns-2 (λ c κs. search needs) (λ c. search needs) (λ c κs. search needs) (λ c. search needs) returns-3)
+drop-task-spec = tie.close (tie.spec (λ c κs. search needs) (λ c. search needs) returns (λ c. search needs) returns-2 (λ c κs. search needs) (λ c. search needs) (λ c κs. search needs) (λ c κs. search needs) (λ c. search needs) returns-3)

@@ -10,11 +10,11 @@ returns c = sweep-broken _ (sym (c .before .class-sizes .ensures .verdict) ∙ c
 
 returns-2 : tie.Need-returns-2
 returns-2 c =
-    let at2 = c .before .before in
-    let at6 = at2 .before .before .before .before in
-    let at11 = at6 .before .before .before .before .before in
-    let tested = at11 .before .class-sizes .ensures in
-    sweep-done _ (sym (tested .verdict) ∙ at11 .if1 .left) _ (tested .sized (at11 .if1 .left)) _ _ _ (at6 .mark-reached .ensures) (at2 .free-unmarked .ensures)
+    let at6 = c .before .before .before .before .before .before in
+    let at10 = at6 .before .before .before .before in
+    let at15 = at10 .before .before .before .before .before in
+    let tested = at15 .before .class-sizes .ensures in
+    rw (c .before .before .close .ensures) (sweep-done _ (sym (tested .verdict) ∙ at15 .if1 .left) _ (tested .sized (at15 .if1 .left)) _ _ _ (at10 .mark-reached .ensures) (at6 .free-unmarked .ensures))
 
 pub sweep-spec : {M : Type 1} → statement M
-sweep-spec = tie.close (tie.spec (λ c κs. search needs) (λ c. search needs) returns (λ c. search needs) (λ c. search needs) (λ c κs. search needs) (λ c. search needs) (λ c κs. search needs) (λ c. search needs) returns-2)
+sweep-spec = tie.close (tie.spec (λ c κs. search needs) (λ c. search needs) returns (λ c. search needs) (λ c. search needs) (λ c κs. search needs) (λ c. search needs) (λ c κs. search needs) (λ c κs. search needs) (λ c. search needs) returns-2)

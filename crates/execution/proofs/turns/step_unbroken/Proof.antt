@@ -1,9 +1,10 @@
 -- Nobody's turn is idle; else what was chosen is carried out, and that is the step of the task whose turn it is.
+use mathlib.Core.Path.{ap, _∙_}
 use denote.Ref.{now}
 use native.Mathlib.Omega.{arith}
 use Rattle.tasks.specs.Turns.{turn-two}
 use Rattle.layout.specs.Unbroken.{unbroken}
-use Rattle.execution.specs.Carried.{still-ready}
+use Rattle.execution.specs.Carried.{closedBy, still-ready}
 use Rattle.definition.specs.Tables.{tables}
 use Rattle.resolution.specs.Quick.{loader-quick}
 use Rattle.execution.specs.Steps.{usable}
@@ -46,14 +47,16 @@ number-ties-requires c κs =
 
 returns-2 : tie.Need-returns-2
 returns-2 c =
-    let at18 = c .before .before .before .before .before .before .before .before .before .before .before .before .before .before .before .before .before .before in
-    let at21 = at18 .before .before .before in
-    let at26 = at21 .before .before .before .before .before in
-    let at29 = at26 .before .before .before in
-    let at30 = at29 .before in
-    let at32 = at30 .before .before in
-    let at42 = at32 .before .before .before .before .before .before .before .before .before .before in
-    top-carried _ _ _ _ _ _ _ _ (at42 .pre .0) _ _ (at32 .turn .ensures) (at30 .frame-count .ensures) (at29 .if1 .left) _ _ (at26 .top-frame .ensures .0) (at26 .top-frame .ensures .1) _ _ _ _ (at21 .choose .ensures) _ _ (at18 .post-ties .ensures .0) (at18 .post-ties .ensures .1 .0) _ _ _ _ (c .before .before .before .before .before .before .before .before .before .before .carry-out .ensures) _ _ (at18 .post-ties .ensures .1 .1 .0) (at18 .post-ties .ensures .1 .1 .1) _ (c .before .before .number-ties .ensures)
+    let at6 = c .before .before .before .before .before .before in
+    let at14 = at6 .before .before .before .before .before .before .before .before in
+    let at22 = at14 .before .before .before .before .before .before .before .before in
+    let at25 = at22 .before .before .before in
+    let at30 = at25 .before .before .before .before .before in
+    let at33 = at30 .before .before .before in
+    let at34 = at33 .before in
+    let at36 = at34 .before .before in
+    let at46 = at36 .before .before .before .before .before .before .before .before .before .before in
+    top-carried _ _ _ _ _ _ _ _ (at46 .pre .0) _ _ (at36 .turn .ensures) (at34 .frame-count .ensures) (at33 .if1 .left) _ _ (at30 .top-frame .ensures .0) (at30 .top-frame .ensures .1) _ _ _ _ (at25 .choose .ensures) _ _ (at22 .post-ties .ensures .0) (at22 .post-ties .ensures .1 .0) _ _ _ _ (at14 .carry-out .ensures) _ _ (at22 .post-ties .ensures .1 .1 .0) (at22 .post-ties .ensures .1 .1 .1) _ (c .before .before .close .ensures ∙ ap (closedBy (at14 .carry-out .result)) (at6 .number-ties .ensures))
 
 pub step-unbroken-spec : {M : Type 1} → statement M
 step-unbroken-spec =
@@ -69,6 +72,7 @@ step-unbroken-spec =
     post-ties-requires
     carry-out-requires
     number-ties-requires
+    (λ c κs. search needs)
     (λ c. search needs)
     (λ c. search needs)
     (λ c. search needs)

@@ -53,14 +53,12 @@ returns-7 c =
 returns-8 : tie.Need-returns-8
 unfolding within
 returns-8 c =
-    let at8 = c .before .before .before .before .before .before .before .before in
-    let at9 = at8 .before in
-    let at10 = at9 .before in
-    let at11 = at10 .before in
-    let at12 = at11 .before in
-    let at13 = at12 .before in
-    let at14 = at13 .before in
-    c .is-within8 .ensures ∙ sym (every-first _ _ (sym (at14 .is-within .ensures) ∙ not-false _ (at13 .if1 .left)) ∙ (every-first _ _ (sym (at12 .is-within2 .ensures) ∙ not-false _ (at11 .if2 .left)) ∙ (every-first _ _ (sym (at10 .is-within3 .ensures) ∙ not-false _ (at9 .if3 .left)) ∙ (every-first _ _ (sym (at8 .is-within4 .ensures) ∙ not-false _ (c .before .before .before .before .before .before .before .if4 .left)) ∙ (every-first _ _ (sym (c .before .before .before .before .before .before .is-within5 .ensures) ∙ not-false _ (c .before .before .before .before .before .if5 .left)) ∙ (every-first _ _ (sym (c .before .before .before .before .is-within6 .ensures) ∙ not-false _ (c .before .before .before .if6 .left)) ∙ (every-first _ _ (sym (c .before .before .is-within7 .ensures) ∙ not-false _ (c .before .if7 .left)) ∙ (every-last _))))))))
+    sym (every-first _ _ (sym (c .before .before .before .before .before .before .before .before .before .before .before .before .before .before .before .is-within .ensures) ∙ not-false _ (c .before .before .before .before .before .before .before .before .before .before .before .before .before .before .if1 .left)) ∙ (every-first _ _ (sym (c .before .before .before .before .before .before .before .before .before .before .before .before .before .is-within2 .ensures) ∙ not-false _ (c .before .before .before .before .before .before .before .before .before .before .before .before .if2 .left)) ∙ (every-first _ _ (sym (c .before .before .before .before .before .before .before .before .before .before .before .is-within3 .ensures) ∙ not-false _ (c .before .before .before .before .before .before .before .before .before .before .if3 .left)) ∙ (every-first _ _ (sym (c .before .before .before .before .before .before .before .before .before .is-within4 .ensures) ∙ not-false _ (c .before .before .before .before .before .before .before .before .if4 .left)) ∙ (every-first _ _ (sym (c .before .before .before .before .before .before .before .is-within5 .ensures) ∙ not-false _ (c .before .before .before .before .before .before .if5 .left)) ∙ (every-first _ _ (sym (c .before .before .before .before .before .is-within6 .ensures) ∙ not-false _ (c .before .before .before .before .if6 .left)) ∙ (every-first _ _ (sym (c .before .before .before .is-within7 .ensures) ∙ not-false _ (c .before .before .if7 .left)) ∙ (every-fails _ _ (sym (c .before .is-within8 .ensures) ∙ not-true _ (c .if8 .taken))))))))))
+
+returns-9 : tie.Need-returns-9
+unfolding within
+returns-9 c =
+    c .is-within9 .ensures ∙ sym (every-first _ _ (sym (c .before .before .before .before .before .before .before .before .before .before .before .before .before .before .before .before .is-within .ensures) ∙ not-false _ (c .before .before .before .before .before .before .before .before .before .before .before .before .before .before .before .if1 .left)) ∙ (every-first _ _ (sym (c .before .before .before .before .before .before .before .before .before .before .before .before .before .before .is-within2 .ensures) ∙ not-false _ (c .before .before .before .before .before .before .before .before .before .before .before .before .before .if2 .left)) ∙ (every-first _ _ (sym (c .before .before .before .before .before .before .before .before .before .before .before .before .is-within3 .ensures) ∙ not-false _ (c .before .before .before .before .before .before .before .before .before .before .before .if3 .left)) ∙ (every-first _ _ (sym (c .before .before .before .before .before .before .before .before .before .before .is-within4 .ensures) ∙ not-false _ (c .before .before .before .before .before .before .before .before .before .if4 .left)) ∙ (every-first _ _ (sym (c .before .before .before .before .before .before .before .before .is-within5 .ensures) ∙ not-false _ (c .before .before .before .before .before .before .before .if5 .left)) ∙ (every-first _ _ (sym (c .before .before .before .before .before .before .is-within6 .ensures) ∙ not-false _ (c .before .before .before .before .before .if6 .left)) ∙ (every-first _ _ (sym (c .before .before .before .before .is-within7 .ensures) ∙ not-false _ (c .before .before .before .if7 .left)) ∙ (every-first _ _ (sym (c .before .before .is-within8 .ensures) ∙ not-false _ (c .before .if8 .left)) ∙ (every-last _)))))))))
 
 pub are-within-spec : {M : Type 1} → statement M
-are-within-spec = tie.close (tie.spec (λ c κs. search needs) returns (λ c κs. search needs) returns-2 (λ c κs. search needs) returns-3 (λ c κs. search needs) returns-4 (λ c κs. search needs) returns-5 (λ c κs. search needs) returns-6 (λ c κs. search needs) returns-7 (λ c κs. search needs) returns-8)
+are-within-spec = tie.close (tie.spec (λ c κs. search needs) returns (λ c κs. search needs) returns-2 (λ c κs. search needs) returns-3 (λ c κs. search needs) returns-4 (λ c κs. search needs) returns-5 (λ c κs. search needs) returns-6 (λ c κs. search needs) returns-7 (λ c κs. search needs) returns-8 (λ c κs. search needs) returns-9)

@@ -1,2 +1,0 @@
--- What the decisions of record mean.
-pub mod Deciding

@@ -1,0 +1,2 @@
+-- What taking back writes.
+pub mod Back
