@@ -2,6 +2,7 @@
 // Requests and constraints as a picture: a column for each loader, a row for each name. What is drawn was handed over; nothing is decided.
 
 const BOX = [160, 40], STEP = [236, 76], EDGE = 52, LANE = 20;
+
 function el(tag, attributes, ...children) {
   return filled(document.createElement(tag), attributes, children);
 }

@@ -23,7 +23,7 @@ pub struct Choice {
 }
 
 /// When each word of refusal is said.
-const RULES: [&str; 18] = [
+const RULES: [&str; 19] = [
     "a table has a wrong length, or the tables are no store",
     "the file breaks a rule of files",
     "a loader, task, class number or count isn't there",
@@ -43,6 +43,7 @@ const RULES: [&str; 18] = [
     "the list for the chain is too short",
     "a division by 0",
     "the report has used its share of objects",
+    "no load is left to take back: a boot, start, drop, sweep or step closes those before it",
 ];
 
 /// Is the call one at which the page asks?
@@ -123,6 +124,7 @@ fn guesses(call: &Call, told: &Told, before: &Store, names: &Names) -> Vec<(u32,
             let all = before.objects_in_use().count();
             [0, all, all.saturating_sub(1)].map(|freed| (0, format!("freed {}", counted(freed, "object")))).to_vec()
         }
+        Call::TakeBack => vec![(0, "taken back".into()), no(word::TOO_LATE)],
         Call::Step => stepped(told, before, names),
         Call::Run { .. } => {
             let mut all = finished(told, before);
