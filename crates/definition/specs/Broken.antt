@@ -4,12 +4,13 @@ use mathlib.Core.List.{List, [], _∷_}
 use Prim.Native.Nat.{ℕ, zero, suc, _+_}
 use lib.ListN.{length, getD}
 use lib.Dec.{eqb, leb, ltb}
-use Rattle.definition.specs.Numbers.{loaderLimit, taskLimit, classLimit, keptLimit, cacheLimit, tieLimit, subtypeLimit, objectLimit, shareLimit, fieldLimit, frameLimit, operandLimit, traceLimit, countClasses, countKept, countCache, countTies, countSubtypes, countObjects, countFrames, loadsCell}
-use Rattle.definition.specs.Lists.{every, all, allFrom, isSome}
+use Rattle.definition.specs.Numbers.{loaderLimit, taskLimit, classLimit, keptLimit, cacheLimit, tieLimit, subtypeLimit, objectLimit, shareLimit, fieldLimit, frameLimit, operandLimit, traceLimit, countClasses, countKept, countCache, countTies, countSubtypes, countObjects, countFrames, loadsCell, groupsCell}
+use Rattle.definition.specs.Lists.{every, all, allFrom, isSome, sameList, rows}
 use Rattle.definition.specs.Classes.{Base, Entry, superOf}
 use Rattle.definition.specs.Constraints.{Tie, Subtype}
+use Rattle.definition.specs.Groups.{groupsOf}
 use Rattle.definition.specs.Machine.{Value, emptyValue, intValue, nullValue, objectValue, unlistedValue, ObjectRow, free, owned, Objects, Frame, existing, madeBy}
-use Rattle.definition.specs.Tables.{Tables, shaped, ClassRow, RowNumbers, Level, Rows, cutTo, fileAt, baseOf, sizeOf, view}
+use Rattle.definition.specs.Tables.{Tables, shaped, ClassRow, RowNumbers, Level, Rows, cutTo, fileAt, baseOf, sizeOf, numberAt, view}
 
 -- each count within its limit
 unfoldable pub within : List ℕ → Bool
@@ -121,8 +122,16 @@ unfoldable pub traceFits : List Level → Rows → Bool
 traceFits [] r = true
 traceFits (l ∷ ls) r = every (levelFits l r ∷ sound (cutTo l r) ∷ traceFits ls (cutTo l r) ∷ [])
 
+-- The groups beside the ties are exactly these. Of a store that taking back would leave nothing is asked of them: there they are made anew.
+
+abbrev pub groupsIn : Tables → List ℕ
+groupsIn t = rows (numberAt groupsCell (t .counts)) (getD (t .counts) countTies 0) 0
+
+unfoldable pub grouped : Tables → Bool
+grouped t = sameList (groupsIn t) (groupsOf (view t .ties) (view t .numbers .ties))
+
 unfoldable pub whole : Tables → Bool
-whole t = every (shaped t ∷ within (t .counts) ∷ sound (view t) ∷ traceFits (view t .trace) (view t) ∷ [])
+whole t = every (shaped t ∷ within (t .counts) ∷ sound (view t) ∷ traceFits (view t .trace) (view t) ∷ grouped t ∷ [])
 
 unfoldable pub broken : Tables → Bool
 broken t = not (whole t)

@@ -200,6 +200,10 @@ traceCell = loadsCell + 1
 abbrev pub levelCells : ℕ
 levelCells = 5
 
+-- behind that, the group of each tie's row
+abbrev pub groupsCell : ℕ
+groupsCell = traceCell + traceLimit * levelCells
+
 -- Rows: cells of a row of classes, cache, ties and subtypes; of a value; of an object and of a frame, and where in them something stands
 
 abbrev pub rowCells : ℕ
@@ -237,7 +241,7 @@ frameCells = operandsCell + valueCells * operandLimit
 -- The published lengths
 
 abbrev pub countsLength : ℕ
-countsLength = traceCell + traceLimit * levelCells
+countsLength = groupsCell + tieLimit
 
 abbrev pub classesLength : ℕ
 classesLength = classLimit * rowCells
@@ -299,7 +303,7 @@ allNumbers =
     ∷ classLimit ∷ keptLimit ∷ cacheLimit ∷ tieLimit ∷ subtypeLimit ∷ objectLimit ∷ shareLimit
     ∷ fieldLimit ∷ frameLimit ∷ operandLimit ∷ localCount ∷ runLimit ∷ traceLimit ∷ listLimit ∷ versionOne ∷ versionTwo ∷ versionThree
     ∷ fileLimit ∷ memberLimit ∷ argumentLimit ∷ codeLimit ∷ countClasses ∷ countKept ∷ countCache
-    ∷ countTies ∷ countSubtypes ∷ countObjects ∷ countFrames ∷ ownersCell ∷ tieNumbersCell ∷ subtypeNumbersCell ∷ loadsCell ∷ traceCell ∷ levelCells ∷ rowCells ∷ valueCells
+    ∷ countTies ∷ countSubtypes ∷ countObjects ∷ countFrames ∷ ownersCell ∷ tieNumbersCell ∷ subtypeNumbersCell ∷ loadsCell ∷ traceCell ∷ levelCells ∷ groupsCell ∷ rowCells ∷ valueCells
     ∷ fieldsCell ∷ objectCells ∷ methodCell ∷ pointCell ∷ depthCell ∷ localsCell
     ∷ operandsCell ∷ frameCells ∷ countsLength ∷ classesLength ∷ keptLength ∷ cacheLength
     ∷ tiesLength ∷ subtypesLength ∷ objectsLength ∷ framesLength ∷ kindEmpty ∷ kindInt

@@ -9,12 +9,13 @@ use mathlib.Core.List.{List, [], _∷_, map}
 use Prim.Native.Nat.{ℕ, zero, suc, _+_, _*_}
 use lib.ListN.{length, replicate, take, drop, getD, set}
 use lib.Dec.{eqb, leb}
-use Rattle.definition.specs.Numbers.{fieldLimit, frameLimit, localCount, countClasses, countKept, countCache, countTies, countSubtypes, countObjects, countFrames, ownersCell, tieNumbersCell, subtypeNumbersCell, loadsCell, traceCell, levelCells, rowCells, valueCells, objectCells, fieldsCell, frameCells, methodCell, pointCell, depthCell, localsCell, operandsCell, countsLength, classesLength, keptLength, cacheLength, tiesLength, subtypesLength, objectsLength, framesLength, kindEmpty, kindInt, kindNull, kindObject}
+use Rattle.definition.specs.Numbers.{fieldLimit, frameLimit, localCount, countClasses, countKept, countCache, countTies, countSubtypes, countObjects, countFrames, ownersCell, tieNumbersCell, subtypeNumbersCell, loadsCell, traceCell, levelCells, groupsCell, rowCells, valueCells, objectCells, fieldsCell, frameCells, methodCell, pointCell, depthCell, localsCell, operandsCell, countsLength, classesLength, keptLength, cacheLength, tiesLength, subtypesLength, objectsLength, framesLength, kindEmpty, kindInt, kindNull, kindObject}
 use Rattle.definition.specs.Lists.{every, rows, writeRows, stack, writeStack}
 use Rattle.definition.specs.Maybe.{_>>=_, need}
 use Rattle.definition.specs.Requests.{at}
 use Rattle.definition.specs.Classes.{Base, Class, Entry, slots}
 use Rattle.definition.specs.Constraints.{Tie, Subtype, World}
+use Rattle.definition.specs.Groups.{groupsOf}
 use Rattle.definition.specs.Instructions.{pick}
 use Rattle.definition.specs.Machine.{Value, emptyValue, intValue, nullValue, objectValue, unlistedValue, Object, ObjectRow, free, owned, Objects, Frame}
 use Rattle.definition.specs.File.{File, readFile, classOf, objectClass}
@@ -278,7 +279,8 @@ unfoldable pub putObjectRow : List ℕ → ℕ → ObjectRow → List ℕ
 putObjectRow t o free = t
 putObjectRow t o (owned k x) = putObject t o x
 
--- Of a tie and of a subtype constraint its number stands behind the owners, in cell i of the section of counts that begins at cell s
+-- Of a tie and of a subtype constraint its number stands behind the owners, in cell i of the section of counts that begins at cell s; likewise a tie's
+-- group, behind the trace
 
 unfoldable pub numberAt : ℕ → List ℕ → ℕ → ℕ
 numberAt s n i = getD n (s + i) 0
@@ -394,9 +396,13 @@ putNumbers n c = writeRows (putNumber tieNumbersCell) (n .ties) 0 (writeRows (pu
 unfoldable pub putTrace : List Level → List ℕ → List ℕ
 putTrace ls c = writeStack putLevel ls (set c loadsCell (length ls))
 
+-- groups are no part of rows, since ties and their numbers give them: whatever is put, its groups are made anew
+unfoldable pub putGroups : List Tie → List ℕ → List ℕ → List ℕ
+putGroups ts ns c = writeRows (putNumber groupsCell) (groupsOf ts ns) 0 c
+
 unfoldable pub put : Rows → Tables → Tables
 put r t = record {
-  counts = putTrace (r .trace) (putNumbers (r .numbers) (writeRows putOwner (r .objects) 0 (writeRows set (countsOf r) 0 (t .counts))));
+  counts = putGroups (r .ties) (r .numbers .ties) (putTrace (r .trace) (putNumbers (r .numbers) (writeRows putOwner (r .objects) 0 (writeRows set (countsOf r) 0 (t .counts)))));
   classes = writeRows putClassRow (r .classes) 0 (t .classes);
   kept = writeRows set (r .kept) 0 (t .kept);
   cache = writeRows putEntry (r .cache) 0 (t .cache);

@@ -125,6 +125,9 @@ pub const TRACE_CELL: usize = LOADS_CELL + 1;
 
 pub const LEVEL_CELLS: usize = 5;
 
+// Behind that, the group of each tie's row.
+pub const GROUPS_CELL: usize = TRACE_CELL + TRACE_LIMIT as usize * LEVEL_CELLS;
+
 // Rows: cells of a row of classes, cache, ties and subtypes, and of a value.
 pub const ROW_CELLS: usize = 3;
 
@@ -149,7 +152,7 @@ pub const OPERANDS_CELL: usize = LOCALS_CELL + VALUE_CELLS * LOCAL_COUNT as usiz
 pub const FRAME_CELLS: usize = OPERANDS_CELL + VALUE_CELLS * OPERAND_LIMIT as usize;
 
 // The published lengths.
-pub const COUNTS_LENGTH: usize = TRACE_CELL + TRACE_LIMIT as usize * LEVEL_CELLS;
+pub const COUNTS_LENGTH: usize = GROUPS_CELL + TIE_LIMIT as usize;
 
 pub const CLASSES_LENGTH: usize = CLASS_LIMIT as usize * ROW_CELLS;
 
@@ -184,7 +187,7 @@ pub const INT_RANGE: usize = 4294967296;
 pub const SIGN_BIT: u32 = 2147483648;
 
 // Every number above, in the order of their names in specs/Numbers.antt.
-pub fn all_numbers() -> [u64; 83]
+pub fn all_numbers() -> [u64; 84]
     ensures { λ r. ⌜ r ≡ allNumbers ⌝ }
 {
     [
@@ -245,6 +248,7 @@ pub fn all_numbers() -> [u64; 83]
         LOADS_CELL as u64,
         TRACE_CELL as u64,
         LEVEL_CELLS as u64,
+        GROUPS_CELL as u64,
         ROW_CELLS as u64,
         VALUE_CELLS as u64,
         FIELDS_CELL as u64,
