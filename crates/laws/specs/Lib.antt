@@ -3,6 +3,7 @@ pub mod Options
 pub mod Results
 pub mod Arguments
 pub mod Chains
+pub mod Groups
 pub mod Upward
 pub mod Agreement
 pub mod Checks
