@@ -299,14 +299,6 @@ groups-read ts ns a l = elim (read ts (λ t m. m)) [ inl e ↦ e | inr (e, h) �
 
 -- Writing: a number beside each tie, that of its one end's group by `GroupNumber`'s words, is what the definition makes
 
-pub groups-length : (ts : List Tie) (ns : List ℕ) → length (groupsOf ts ns) ≡ length ts
-unfolding groupsOf
-groups-length ts ns = each ts
-  where
-    each : (us : List Tie) → length (map (λ t. cellOf (groupOf ts ns (oneOf t))) us) ≡ length us
-    each [] = refl
-    each (u ∷ us) = ap suc (each us)
-
 pub groups-are : (ts : List Tie) (ns gs : List ℕ) → length gs ≡ length ts
     → ((i : ℕ) (t : Tie) (g : ℕ) → getElem? ts i ≡ some t → getElem? gs i ≡ some g → GroupNumber ts ns (oneOf t) g) → gs ≡ groupsOf ts ns
 unfolding groupsOf cellOf
