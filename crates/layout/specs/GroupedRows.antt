@@ -16,7 +16,7 @@ use Rattle.definition.specs.Groups.{groupOf, cellOf, groupsOf}
 use Rattle.definition.specs.Tables.{Tables, numberAt, putNumber, tiesOf, numbersOf, viewOver, view, putGroups}
 use Rattle.definition.specs.Broken.{groupsIn, grouped}
 use Rattle.layout.specs.Places.{rows-length, writeRows-length}
-use Rattle.layout.specs.NumberedRows.{putNumber-length, numbers-before, numbers-kept, numbers-back}
+use Rattle.layout.specs.NumberedRows.{putNumber-length, numbers-before, numbers-behind, numbers-kept, numbers-back}
 
 -- Lists of the same numbers are one
 
@@ -66,6 +66,11 @@ putGroups-length ts ns c = writeRows-length (putNumber groupsCell) (putNumber-le
 pub putGroups-before : (ts : List Tie) (ns c : List ℕ) (j : ℕ) → j < groupsCell → getD (putGroups ts ns c) j 0 ≡ getD c j 0
 unfolding putGroups
 putGroups-before ts ns c j l = numbers-before groupsCell (groupsOf ts ns) 0 c j l
+
+-- and cells behind the groups of the ties
+pub putGroups-behind : (ts : List Tie) (ns c : List ℕ) (j : ℕ) → groupsCell + length ts ≤ j → getD (putGroups ts ns c) j 0 ≡ getD c j 0
+unfolding putGroups
+putGroups-behind ts ns c j l = numbers-behind groupsCell (groupsOf ts ns) 0 c j (omega (arith, l, groups-length ts ns))
 
 -- groups that were put are read back
 pub groups-back : (ts : List Tie) (ns c : List ℕ) → groupsCell + length ts ≤ length c → rows (numberAt groupsCell (putGroups ts ns c)) (length ts) 0 ≡ groupsOf ts ns
