@@ -1,0 +1,7 @@
+// Groups of tied requests, made of rows of ties.
+mod names; // names.rt: the first row of each row's name
+mod uniting; // uniting.rt: roots of rows, and groups made one
+mod claims; // claims.rt: which row named a request
+mod grouping; // grouping.rt: the lowest row of each row's group
+
+pub use grouping::group_rows;
