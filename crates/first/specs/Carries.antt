@@ -5,18 +5,21 @@ use mathlib.Core.Bool.{Bool, true, false, not}
 use mathlib.Core.List.{List, [], _∷_, _++_}
 use Prim.Native.Nat.{ℕ, zero, suc, _+_, _*_, _<_, _≤_}
 use native.Mathlib.Omega.{arith}
-use lib.ListN.{length, getD, replicate, length-replicate, getD-replicate, length-append, List·getD-append}
+use lib.ListN.{length, getD, take, replicate, length-replicate, getD-replicate, length-append, List·getD-append}
 use lib.Seq.{getD-append-add}
 use lib.Dec.{eqb, leb}
 use borrow.Author.Tests.{eqb-true, eqb-false, eq-eqb, ne-eqb, leb-true, le-leb, not-false}
-use Rattle.definition.specs.Numbers.{taskLimit, classLimit, keptLimit, cacheLimit, tieLimit, subtypeLimit, objectLimit, frameLimit, countClasses, countKept, countCache, countTies, countSubtypes, countObjects, countFrames, ownersCell, tieNumbersCell, subtypeNumbersCell, loadsCell, traceLimit, levelCells, countsLength, classesLength, keptLength, cacheLength, tiesLength, subtypesLength, objectsLength, framesLength, shareLimit}
-use Rattle.definition.specs.Lists.{every, any, rows, stack}
+use Rattle.definition.specs.Numbers.{taskLimit, classLimit, keptLimit, cacheLimit, tieLimit, subtypeLimit, objectLimit, frameLimit, countClasses, countKept, countCache, countTies, countSubtypes, countObjects, countFrames, ownersCell, tieNumbersCell, subtypeNumbersCell, loadsCell, groupsCell, traceLimit, levelCells, countsLength, classesLength, keptLength, cacheLength, tiesLength, subtypesLength, objectsLength, framesLength, shareLimit}
+use Rattle.definition.specs.Lists.{every, any, filled, rows, stack}
+use Rattle.definition.specs.Groups.{groupsOf}
 use Rattle.definition.specs.Machine.{madeBy}
 use Rattle.definition.specs.Classes.{Base}
-use Rattle.definition.specs.Tables.{Tables, tables, rowNumbers, numberAt, numbersOf, shaped, baseOf, classRowAt, entryAt, tieAt, subtypeAt, objectAt, ownedBy, ownerAt, objectRowAt, frameIn, classRowsOf, keptOf, cacheOf, viewBase, objectsOf, framesOf, viewOver, view}
-use Rattle.definition.specs.Broken.{within, inTurn, numbered, traceFits, whole, broken}
+use Rattle.definition.specs.Tables.{Tables, tables, rowNumbers, numberAt, numbersOf, shaped, baseOf, classRowAt, entryAt, tieAt, subtypeAt, objectAt, ownedBy, ownerAt, objectRowAt, frameIn, classRowsOf, keptOf, cacheOf, tiesOf, viewBase, objectsOf, framesOf, viewOver, view}
+use Rattle.definition.specs.Broken.{within, inTurn, numbered, traceFits, grouped, whole, broken}
 use Rattle.definition.specs.Calls.{numbersFrom}
-use Rattle.layout.specs.Places.{rows-length, rows-getD, rows-cong}
+use Rattle.laws.specs.Arguments.{filled-length}
+use Rattle.layout.specs.Places.{rows-length, rows-getD, rows-cong, rows-take}
+use Rattle.layout.specs.GroupedRows.{groups-length, is-grouped}
 use Rattle.layout.specs.InTurn.{more-ties, more-subtypes}
 use Rattle.layout.specs.Tests.{every-true}
 use Rattle.layout.specs.Unbroken.{unbroken, broken-false}
@@ -29,7 +32,7 @@ use Rattle.first.specs.SameRows.{SameRows, EarlyRows, BesideFits, same-s
 
 -- how many cells stand behind the eight counts
 abbrev pub besideLength : ℕ
-besideLength = objectLimit + (tieLimit + (subtypeLimit + (1 + traceLimit * levelCells)))
+besideLength = objectLimit + (tieLimit + (subtypeLimit + (1 + traceLimit * levelCells + tieLimit)))
 
 -- an owner cell that says a task, whichever
 abbrev pub IsOwner : ℕ → Type 0
@@ -60,28 +63,32 @@ pub record Carries (u : FirstTables) (t : Tables) : Type 0 where
 abbrev pub noTrace : List ℕ
 noTrace = replicate (1 + traceLimit * levelCells) 0
 
--- ties numbered first, n of them, then subtype constraints; and no trace
-abbrev pub tiesFirst : ℕ → List ℕ
-tiesFirst n = numbersFrom 0 tieLimit ++ (numbersFrom n subtypeLimit ++ noTrace)
+-- ties numbered first, n of them, then subtype constraints; no trace; and groups gs
+abbrev pub tiesFirst : ℕ → List ℕ → List ℕ
+tiesFirst n gs = numbersFrom 0 tieLimit ++ (numbersFrom n subtypeLimit ++ (noTrace ++ gs))
+
+-- the groups of ties numbered first, a cell for each row
+abbrev pub groupsFirst : FirstTables → List ℕ
+groupsFirst u = filled tieLimit 0 (groupsOf (tiesOf u) (numbersFrom 0 (getD (u .counts) countTies 0)))
 
 -- every tables of the first document are carried by those in which task k owns every row, the quote, with ties numbered first
 abbrev pub carriedBy : ℕ → FirstTables → Tables
-carriedBy k u = withCounts (u .counts ++ (replicate objectLimit (suc k) ++ tiesFirst (getD (u .counts) countTies 0))) u
+carriedBy k u = withCounts (u .counts ++ (replicate objectLimit (suc k) ++ tiesFirst (getD (u .counts) countTies 0) (groupsFirst u))) u
 
-module _ (c ow : List ℕ) (n m : ℕ) (eight : length c ≡ ownersCell) (all : length ow ≡ objectLimit) (few : n ≤ tieLimit) (less : m ≤ subtypeLimit) where
+module _ (c ow : List ℕ) (n m : ℕ) (gs : List ℕ) (eight : length c ≡ ownersCell) (all : length ow ≡ objectLimit) (few : n ≤ tieLimit) (less : m ≤ subtypeLimit) where
   abbrev cells : List ℕ
-  cells = c ++ (ow ++ tiesFirst n)
+  cells = c ++ (ow ++ tiesFirst n gs)
 
-  cell-behind : (j : ℕ) → getD cells (tieNumbersCell + j) 0 ≡ getD (tiesFirst n) j 0
+  cell-behind : (j : ℕ) → getD cells (tieNumbersCell + j) 0 ≡ getD (tiesFirst n gs) j 0
   cell-behind j =
       let a : tieNumbersCell + j ≡ length c + (length ow + j) = omega arith in
-      rw a (getD-append-add c (ow ++ tiesFirst n) (length ow + j) 0 ∙ getD-append-add ow (tiesFirst n) j 0)
+      rw a (getD-append-add c (ow ++ tiesFirst n gs) (length ow + j) 0 ∙ getD-append-add ow (tiesFirst n gs) j 0)
 
   tie-numbers : rows (numberAt tieNumbersCell cells) n 0 ≡ numbersFrom 0 n
   unfolding numberAt
   tie-numbers = rows-cong (numberAt tieNumbersCell cells) (λ i. i) n 0 (λ i _ l.
       let z : 0 + i ≡ i = omega arith in
-      cell-behind i ∙ (List·getD-append (numbersFrom 0 tieLimit) (numbersFrom n subtypeLimit ++ noTrace) 0 i (omega (arith, rows-length (λ i. i) tieLimit 0))
+      cell-behind i ∙ (List·getD-append (numbersFrom 0 tieLimit) (numbersFrom n subtypeLimit ++ (noTrace ++ gs)) 0 i (omega (arith, rows-length (λ i. i) tieLimit 0))
       ∙ (rw z at (rows-getD (λ i. i) tieLimit 0 i 0 (omega arith)))))
 
   subtype-numbers : rows (numberAt subtypeNumbersCell cells) m 0 ≡ numbersFrom n m
@@ -89,8 +96,8 @@ module _ (c ow : List ℕ) (n m : ℕ) (eight : length c ≡ ownersCell) (all : 
   subtype-numbers =
       rows-cong (numberAt subtypeNumbersCell cells) (λ i. n + i) m 0 (λ i _ l.
       let a : subtypeNumbersCell + i ≡ tieNumbersCell + (length (numbersFrom 0 tieLimit) + i) = omega (arith, rows-length (λ i. i) tieLimit 0) in
-      rw a (cell-behind (length (numbersFrom 0 tieLimit) + i) ∙ (getD-append-add (numbersFrom 0 tieLimit) (numbersFrom n subtypeLimit ++ noTrace) i 0
-      ∙ (List·getD-append (numbersFrom n subtypeLimit) noTrace 0 i (omega (arith, rows-length (λ i. i) subtypeLimit n))
+      rw a (cell-behind (length (numbersFrom 0 tieLimit) + i) ∙ (getD-append-add (numbersFrom 0 tieLimit) (numbersFrom n subtypeLimit ++ (noTrace ++ gs)) i 0
+      ∙ (List·getD-append (numbersFrom n subtypeLimit) (noTrace ++ gs) 0 i (omega (arith, rows-length (λ i. i) subtypeLimit n))
       ∙ rows-getD (λ i. i) subtypeLimit n i 0 (omega arith)))))
       ∙ shifted m 0 n (omega arith)
     where
@@ -102,8 +109,19 @@ module _ (c ow : List ℕ) (n m : ℕ) (eight : length c ≡ ownersCell) (all : 
   no-loads =
       let a : loadsCell ≡ tieNumbersCell + (length (numbersFrom 0 tieLimit) + (length (numbersFrom n subtypeLimit) + 0)) = omega (arith, rows-length (λ i. i) tieLimit 0, rows-length (λ i. i) subtypeLimit n) in
       rw a (cell-behind (length (numbersFrom 0 tieLimit) + (length (numbersFrom n subtypeLimit) + 0))
-      ∙ (getD-append-add (numbersFrom 0 tieLimit) (numbersFrom n subtypeLimit ++ noTrace) (length (numbersFrom n subtypeLimit) + 0) 0
-      ∙ getD-append-add (numbersFrom n subtypeLimit) noTrace 0 0))
+      ∙ (getD-append-add (numbersFrom 0 tieLimit) (numbersFrom n subtypeLimit ++ (noTrace ++ gs)) (length (numbersFrom n subtypeLimit) + 0) 0
+      ∙ getD-append-add (numbersFrom n subtypeLimit) (noTrace ++ gs) 0 0))
+
+  group-cell : (i : ℕ) → getD cells (groupsCell + i) 0 ≡ getD gs i 0
+  group-cell i =
+      let a : groupsCell + i ≡ tieNumbersCell + (length (numbersFrom 0 tieLimit) + (length (numbersFrom n subtypeLimit) + (length noTrace + i))) = omega (arith, rows-length (λ i. i) tieLimit 0, rows-length (λ i. i) subtypeLimit n, length-replicate {A = ℕ} (1 + traceLimit * levelCells) 0) in
+      rw a (cell-behind (length (numbersFrom 0 tieLimit) + (length (numbersFrom n subtypeLimit) + (length noTrace + i)))
+      ∙ (getD-append-add (numbersFrom 0 tieLimit) (numbersFrom n subtypeLimit ++ (noTrace ++ gs)) (length (numbersFrom n subtypeLimit) + (length noTrace + i)) 0
+      ∙ (getD-append-add (numbersFrom n subtypeLimit) (noTrace ++ gs) (length noTrace + i) 0 ∙ getD-append-add noTrace gs i 0)))
+
+  groups-there : (k : ℕ) → k ≤ length gs → rows (numberAt groupsCell cells) k 0 ≡ take k gs
+  unfolding numberAt
+  groups-there k l = rows-cong (numberAt groupsCell cells) (λ i. getD gs i 0) k 0 (λ i _ _. group-cell i) ∙ rows-take gs k l
 
 -- ties numbered first are in turn
 first-in-turn : (n m : ℕ) → numbered (rowNumbers (numbersFrom 0 n) (numbersFrom n m)) ≡ true
@@ -118,11 +136,23 @@ fronting k two u =
     let n : ℕ = getD (u .counts) countTies 0 in
     let ow : List ℕ = replicate objectLimit (suc k) in
     let long : length ow ≡ objectLimit = length-replicate objectLimit (suc k) in
+    let gs : List ℕ = groupsFirst u in
     record {
-      behind = ow ++ tiesFirst n;
+      behind = ow ++ tiesFirst n gs;
       counts = refl;
-      all = omega (arith, length-append ow (tiesFirst n), long, length-append (numbersFrom 0 tieLimit) (numbersFrom n subtypeLimit ++ noTrace), length-append (numbersFrom n subtypeLimit) noTrace, length-replicate {A = ℕ} (1 + traceLimit * levelCells) 0, rows-length (λ i. i) tieLimit 0, rows-length (λ i. i) subtypeLimit n);
-      tasks = λ o _ l. (k, two, List·getD-append ow (tiesFirst n) 0 o (omega (arith, long)) ∙ getD-replicate objectLimit o (suc k) 0 l);
+      all = omega (
+        arith,
+        length-append ow (tiesFirst n gs),
+        long,
+        length-append (numbersFrom 0 tieLimit) (numbersFrom n subtypeLimit ++ (noTrace ++ gs)),
+        length-append (numbersFrom n subtypeLimit) (noTrace ++ gs),
+        length-append noTrace gs,
+        length-replicate {A = ℕ} (1 + traceLimit * levelCells) 0,
+        rows-length (λ i. i) tieLimit 0,
+        rows-length (λ i. i) subtypeLimit n,
+        filled-length tieLimit 0 (groupsOf (tiesOf u) (numbersFrom 0 n)),
+      );
+      tasks = λ o _ l. (k, two, List·getD-append ow (tiesFirst n gs) 0 o (omega (arith, long)) ∙ getD-replicate objectLimit o (suc k) 0 l);
       rest = refl;
     }
 
@@ -133,14 +163,38 @@ carried-turn k u eight few less =
     let n : ℕ = getD (u .counts) countTies 0 in
     let ow : List ℕ = replicate objectLimit (suc k) in
     let long : length ow ≡ objectLimit = length-replicate objectLimit (suc k) in
-    let cell : (j : ℕ) → j < ownersCell → getD (u .counts ++ (ow ++ tiesFirst n)) j 0 ≡ getD (u .counts) j 0 = λ j l. List·getD-append (u .counts) (ow ++ tiesFirst n) 0 j (omega arith) in
+    let gs : List ℕ = groupsFirst u in
+    let cell : (j : ℕ) → j < ownersCell → getD (u .counts ++ (ow ++ tiesFirst n gs)) j 0 ≡ getD (u .counts) j 0 = λ j l. List·getD-append (u .counts) (ow ++ tiesFirst n gs) 0 j (omega arith) in
     rw (
       cell countTies (omega arith),
       cell countSubtypes (omega arith),
-      tie-numbers (u .counts) ow n (getD (u .counts) countSubtypes 0) eight long few less,
-      subtype-numbers (u .counts) ow n (getD (u .counts) countSubtypes 0) eight long few less,
+      tie-numbers (u .counts) ow n (getD (u .counts) countSubtypes 0) gs eight long few less,
+      subtype-numbers (u .counts) ow n (getD (u .counts) countSubtypes 0) gs eight long few less,
     )
     (first-in-turn n (getD (u .counts) countSubtypes 0))
+
+-- and their groups are those of their ties
+filled-front : (k : ℕ) (xs : List ℕ) → length xs ≤ k → take (length xs) (filled k 0 xs) ≡ xs
+unfolding filled
+filled-front k [] l = refl
+filled-front zero (x ∷ xs) l = absurd (omega arith)
+filled-front (suc k) (x ∷ xs) l = λ i. x ∷ filled-front k xs (omega (arith, l)) i
+
+carried-groups : (k : ℕ) (u : FirstTables) → length (u .counts) ≡ firstCountsLength → getD (u .counts) countTies 0 ≤ tieLimit → getD (u .counts) countSubtypes 0 ≤ subtypeLimit
+    → grouped (carriedBy k u) ≡ true
+carried-groups k u eight few less =
+    let n : ℕ = getD (u .counts) countTies 0 in
+    let ow : List ℕ = replicate objectLimit (suc k) in
+    let long : length ow ≡ objectLimit = length-replicate objectLimit (suc k) in
+    let gs : List ℕ = groupsOf (tiesOf u) (numbersFrom 0 n) in
+    let many : length gs ≡ n = groups-length (tiesOf u) (numbersFrom 0 n) ∙ rows-length (tieAt (u .ties)) n 0 in
+    let cell : getD (u .counts ++ (ow ++ tiesFirst n (groupsFirst u))) countTies 0 ≡ n = List·getD-append (u .counts) (ow ++ tiesFirst n (groupsFirst u)) 0 countTies (omega arith) in
+    is-grouped (carriedBy k u)
+    (ap (λ (m : ℕ). rows (numberAt groupsCell (carriedBy k u .counts)) m 0) cell
+    ∙ (groups-there (u .counts) ow n (getD (u .counts) countSubtypes 0) (groupsFirst u) eight long few less n (omega (arith, filled-length tieLimit 0 gs, few))
+    ∙ (ap (λ (m : ℕ). take m (filled tieLimit 0 gs)) (sym many) ∙ (filled-front tieLimit gs (omega (arith, many, few))
+    ∙ λ i. groupsOf (rows (tieAt (u .ties)) (sym cell i) 0)
+    ((sym (tie-numbers (u .counts) ow n (getD (u .counts) countSubtypes 0) (groupsFirst u) eight long few less) ∙ ap (λ (m : ℕ). rows (numberAt tieNumbersCell (carriedBy k u .counts)) m 0) (sym cell)) i)))))
 
 -- the tables keep a file of a later version for a class, or none
 unfoldable pub keepsLater : FirstTables → Bool
@@ -269,9 +323,9 @@ pub early-rows : (u : FirstTables) (t : Tables) → EarlyTables u → SameRows (
 unfolding firstView firstViewOver
 early-rows u t e r = subst (λ (z : FirstRows). Early (z .kept) (z .classes)) (r .rest) e
 
--- the trace passes: at most 32 loads, and each turn leaves sound rows
-abbrev pub TraceBeside : Tables → Type 0
-TraceBeside t = (leb (getD (t .counts) loadsCell 0) traceLimit ≡ true) × (traceFits (view t .trace) (view t) ≡ true)
+-- the trace passes: at most 32 loads, and each turn leaves sound rows; and the groups are right
+abbrev pub SectionsFit : Tables → Type 0
+SectionsFit t = (leb (getD (t .counts) loadsCell 0) traceLimit ≡ true) × (traceFits (view t .trace) (view t) ≡ true) × (grouped t ≡ true)
 
 module _ (u : FirstTables) (t : Tables) (h : Fronts u t) where
   pub eight-counts : firstShaped u ≡ true → length (u .counts) ≡ firstCountsLength
@@ -284,13 +338,14 @@ module _ (u : FirstTables) (t : Tables) (h : Fronts u t) where
   same-rows e s w = same-view u t h e (eight-counts s) (leb-true _ _ (every-true _ w .1 .1 .1 .1 .1 .0))
 
   -- where what stands beside the rows passes, if the first document's tests do, both are broken or neither is
-  alike-broken : EarlyTables u → (firstShaped u ≡ true → firstWithin (u .counts) ≡ true → BesideFits (view t) × TraceBeside t) → firstBroken u ≡ broken t
+  alike-broken : EarlyTables u → (firstShaped u ≡ true → firstWithin (u .counts) ≡ true → BesideFits (view t) × SectionsFit t) → firstBroken u ≡ broken t
   unfolding firstBroken broken firstWhole whole
   alike-broken e turn = ap not
       (in-turn _ _ _ _ (same-shaped u t h) (λ s. in-turn _ _ _ _ (same-within u t h e (eight-counts s) (λ w. turn s w .1 .0)) (λ w.
       let r = same-rows e s w in
       every-more _ (traceFits (view t .trace) (view t)) (λ _. turn s w .1 .1)
-      ∙ ap (λ (z : Bool). every (z ∷ traceFits (view t .trace) (view t) ∷ [])) (ap firstSound (r .rest) ∙ same-sound (firstView u .objects) (view t) (r .objects) (turn s w .0) (early-rows u t e r)))))
+      ∙ (every-more (_ ∷ traceFits (view t .trace) (view t) ∷ []) (grouped t) (λ _. turn s w .1 .2)
+      ∙ ap (λ (z : Bool). every (z ∷ traceFits (view t .trace) (view t) ∷ grouped t ∷ [])) (ap firstSound (r .rest) ∙ same-sound (firstView u .objects) (view t) (r .objects) (turn s w .0) (early-rows u t e r))))))
 
   -- a store that isn't broken
   pub record SameStore : Type 0 where
@@ -302,11 +357,11 @@ module _ (u : FirstTables) (t : Tables) (h : Fronts u t) where
   same-store x e = let p = every-true _ (not-false _ e) in record { eight = eight-counts (p .0); rows = same-rows x (p .0) (p .1 .0) }
 
 -- what today's machine doesn't call broken passes
-beside-unbroken : (t : Tables) → broken t ≡ false → BesideFits (view t) × TraceBeside t
+beside-unbroken : (t : Tables) → broken t ≡ false → BesideFits (view t) × SectionsFit t
 beside-unbroken t b =
     let x = broken-false t b in
     let w = x .1 in
-    ((w .numbers .turn, le-leb (madeBy 1 (view t .objects)) shareLimit (w .share)), (le-leb _ traceLimit (unbroken t b .counts .trace), trace-fits (view t .trace) (view t) (x .2)))
+    ((w .numbers .turn, le-leb (madeBy 1 (view t .objects)) shareLimit (w .share)), (le-leb _ traceLimit (unbroken t b .counts .trace), trace-fits (view t .trace) (view t) (x .2), unbroken t b .groups))
 
 pub same-broken : (u : FirstTables) (t : Tables) → Carries u t → EarlyTables u → firstBroken u ≡ broken t
 same-broken u t h e = go (firstBroken u) refl (broken t) refl
@@ -330,7 +385,7 @@ carrying u = record { fronts = f; unbroken = λ e. sym (alike-broken u (carriedB
     f : Fronts u (carriedBy 0 u)
     f = fronting 0 (omega arith) u
 
-    beside : EarlyTables u → firstShaped u ≡ true → firstWithin (u .counts) ≡ true → BesideFits (view (carriedBy 0 u)) × TraceBeside (carriedBy 0 u)
+    beside : EarlyTables u → firstShaped u ≡ true → firstWithin (u .counts) ≡ true → BesideFits (view (carriedBy 0 u)) × SectionsFit (carriedBy 0 u)
     beside x s w =
         let p = every-true _ w in
         let eight = eight-counts u (carriedBy 0 u) f s in
@@ -340,8 +395,8 @@ carrying u = record { fronts = f; unbroken = λ e. sym (alike-broken u (carriedB
         let cell = List·getD-append (u .counts) (f .behind) 0 countObjects (omega arith) in
         let none = none-made (viewBase (carriedBy 0 u)) (carriedBy 0 u .counts) (u .objects) (getD (carriedBy 0 u .counts) countObjects 0) 0
         (λ m _ l. same-owner u (carriedBy 0 u) f x eight m
-        ∙ (List·getD-append ow (tiesFirst (getD (u .counts) countTies 0)) 0 m (omega (arith, long)) ∙ getD-replicate objectLimit m 1 0 (omega arith))) in
+        ∙ (List·getD-append ow (tiesFirst (getD (u .counts) countTies 0) (groupsFirst u)) 0 m (omega (arith, long)) ∙ getD-replicate objectLimit m 1 0 (omega arith))) in
         let ties = leb-true _ _ (p .1 .1 .1 .0) in
         let subtypes = leb-true _ _ (p .1 .1 .1 .1 .0) in
-        let loads = no-loads (u .counts) ow (getD (u .counts) countTies 0) (getD (u .counts) countSubtypes 0) eight long ties subtypes in
-        ((carried-turn 0 u eight ties subtypes, rw none refl), (rw loads refl, rw loads refl))
+        let loads = no-loads (u .counts) ow (getD (u .counts) countTies 0) (getD (u .counts) countSubtypes 0) (groupsFirst u) eight long ties subtypes in
+        ((carried-turn 0 u eight ties subtypes, rw none refl), (rw loads refl, rw loads refl, carried-groups 0 u eight ties subtypes))

@@ -161,7 +161,7 @@ unfolding lowest
 lowest-some [] n m = absurd (List·Memᴰ·not-nil m)
 lowest-some (k ∷ ns) n m = (lesser k (lowest ns), refl)
 
-joined-some : (ts : List Tie) (ns : List ℕ) (a : Request) (t : Tie) (n i : ℕ) → getElem? ts i ≡ some t → getElem? ns i ≡ some n → Chain (tieEdges ts) a (oneOf t)
+pub joined-some : (ts : List Tie) (ns : List ℕ) (a : Request) (t : Tie) (n i : ℕ) → getElem? ts i ≡ some t → getElem? ns i ≡ some n → Chain (tieEdges ts) a (oneOf t)
     → (g : ℕ) × (groupOf ts ns a ≡ some g)
 unfolding groupOf leads
 joined-some ts ns a t n i x y h = lowest-some _ n (row-listed _ ts ns t n i x y (chain-leads requests (tieEdges ts) a (oneOf t) h))
@@ -225,19 +225,20 @@ named-grouped ts ns a l (t, m, e) =
     let n = beside ts ns t (r .0) l (r .1) in
     joined-some ts ns a t (n .0) (r .0) (r .1) (n .1) (end-chain ts t a m e)
 
--- another has none
+-- another is tied to itself alone, and has none
+pub unnamed-alone : (ts : List Tie) (a b : Request) → (Named ts a → ⊥) → Chain (tieEdges ts) a b → a ≡ b
+unnamed-alone ts a b h c = by (tied-back ts c)
+  where
+    by : Chain (tieEdges ts) b a → a ≡ b
+    by (stay e) = sym e
+    by (hop c m) = absurd (h (edge-named ts _ m))
+
 pub unnamed-none : (ts : List Tie) (ns : List ℕ) (a : Request) → (Named ts a → ⊥) → groupOf ts ns a ≡ none
 unnamed-none ts ns a h = go (groupOf ts ns a) refl
   where
-    at-end : {b : Request} → Chain (tieEdges ts) b a → (b ≡ a) ⊎ Named ts a
-    at-end (stay e) = inl e
-    at-end (hop c m) = inr (edge-named ts _ m)
-
     go : (o : Option ℕ) → groupOf ts ns a ≡ o → o ≡ none
     go none e = refl
-    go (some g) e =
-        let x = group-lowest ts ns a g e in
-        absurd (elim (at-end (tied-back ts (x .chain))) as (λ _. ⊥) [ inl q ↦ h (x .tie, of-row ts (x .tie) (x .row .row) (x .row .tie), inl q) | inr q ↦ h q ])
+    go (some g) e = let x = group-lowest ts ns a g e in absurd (h (x .tie, of-row ts (x .tie) (x .row .row) (x .row .tie), inl (sym (unnamed-alone ts a (oneOf (x .tie)) h (x .chain)))))
 
 -- Reading: the cells gs beside the ties give a request the number in the first row that names it
 
@@ -298,14 +299,6 @@ groups-read ts ns a l = elim (read ts (λ t m. m)) [ inl e ↦ e | inr (e, h) �
         go false e (inr (r, h)) = inr (r, fails e h)
 
 -- Writing: a number beside each tie, that of its one end's group by `GroupNumber`'s words, is what the definition makes
-
-pub groups-length : (ts : List Tie) (ns : List ℕ) → length (groupsOf ts ns) ≡ length ts
-unfolding groupsOf
-groups-length ts ns = each ts
-  where
-    each : (us : List Tie) → length (map (λ t. cellOf (groupOf ts ns (oneOf t))) us) ≡ length us
-    each [] = refl
-    each (u ∷ us) = ap suc (each us)
 
 pub groups-are : (ts : List Tie) (ns gs : List ℕ) → length gs ≡ length ts
     → ((i : ℕ) (t : Tie) (g : ℕ) → getElem? ts i ≡ some t → getElem? gs i ≡ some g → GroupNumber ts ns (oneOf t) g) → gs ≡ groupsOf ts ns

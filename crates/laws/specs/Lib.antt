@@ -14,6 +14,7 @@ pub mod Chosen
 pub mod Found
 pub mod Listed
 pub mod Growth
+pub mod Joined
 pub mod Slots
 pub mod FieldPlaces
 pub mod Members

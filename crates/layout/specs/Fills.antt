@@ -1,25 +1,28 @@
--- Rows that fill a table: as they were read, with others behind them, or replaced. Rows read off tables and put back change nothing. The classes'
--- fields may be read off any base: the laws ask nothing of it.
+-- Rows that fill a table: as they were read, with others behind them, or replaced. Rows read off tables with the right groups and put back change nothing. The
+-- classes' fields may be read off any base: the laws ask nothing of it.
 use mathlib.Core.Path.{_≡_, refl, sym, ap, _∙_}
+use mathlib.Core.Bool.{true}
 use mathlib.Core.List.{List, [], _∷_, _++_}
 use Prim.Native.Nat.{ℕ, zero, suc, _+_, _<_, _≤_}
 use native.Mathlib.Omega.{arith}
 use lib.ListN.{length, getD, set, length-append, length-set}
 use lib.Seq.{getD-set-other}
-use Rattle.definition.specs.Numbers.{ownersCell, tieNumbersCell, subtypeNumbersCell, loadsCell}
+use Rattle.definition.specs.Numbers.{ownersCell, tieNumbersCell, subtypeNumbersCell, loadsCell, traceLimit}
 use Rattle.definition.specs.Lists.{rows, writeRows, stack, writeStack}
 use Rattle.definition.specs.Requests.{at}
 use Rattle.definition.specs.Classes.{Base}
 use Rattle.definition.specs.Constraints.{Tie, Subtype}
 use Rattle.definition.specs.Machine.{Value, Object, Objects, unused, made, rewritten, changed, Frame}
 use Rattle.definition.specs.Sweeping.{sweptFrom}
-use Rattle.definition.specs.Tables.{Tables, tables, RowNumbers, rowNumbers, Level, Rows, putClassRow, putEntry, putTie, putSubtype, usedFields, objectAt, putObject, putField, ownedBy, ownerAt, putOwner, objectRowAt, putObjectRow, numberAt, putNumber, levelAt, frameIn, putFrameIn, classRowsOf, keptOf, cacheOf, tiesOf, subtypesOf, numbersOf, traceOf, viewBase, objectsOf, framesOf, viewOver, view, countsOf, putNumbers, putTrace, put}
+use Rattle.definition.specs.Tables.{Tables, tables, RowNumbers, rowNumbers, Level, Rows, putClassRow, putEntry, putTie, putSubtype, usedFields, objectAt, putObject, putField, ownedBy, ownerAt, putOwner, objectRowAt, putObjectRow, numberAt, putNumber, levelAt, frameIn, putFrameIn, classRowsOf, keptOf, cacheOf, tiesOf, subtypesOf, numbersOf, traceOf, viewBase, objectsOf, framesOf, viewOver, view, countsOf, putNumbers, putTrace, putGroups, put}
+use Rattle.definition.specs.Broken.{grouped}
 use Rattle.layout.specs.Places.{rows-length, stack-length, writeStack-same, written-set}
 use Rattle.layout.specs.Rows.{RowLaws, Anything, rows-kept, rows-more, row-more, class-rows, entry-rows, tie-rows, subtype-rows, cell-rows}
 use Rattle.layout.specs.ObjectRows.{withField, object-field}
 use Rattle.layout.specs.OwnedRows.{SameOwners, owners-set, owners-past, rowsWith, made-count, changed-length, swept-length, rows-swept, rows-same, owners-same, rows-made, owners-made, rows-changed, owners-changed}
 use Rattle.layout.specs.NumberedRows.{SameNumbers, numbers-more, numbers-kept, numbers-before, numbers-behind}
-use Rattle.layout.specs.TracedRows.{SameTrace, trace-kept, trace-fewer}
+use Rattle.layout.specs.TracedRows.{SameTrace, trace-kept, trace-fewer, putTrace-behind}
+use Rattle.layout.specs.GroupedRows.{SameGroups, groups-same, grouped-is}
 use Rattle.layout.specs.FrameRows.{frameIn-same}
 
 -- the count in cell i
@@ -65,19 +68,25 @@ pub record FillsNumbers (ns : RowNumbers) (c : List ℕ) (leaves : List ℕ → 
 
 pub record FillsTrace (ls : List Level) (c : List ℕ) (leaves : List ℕ → List ℕ) : Type 0 where
   pub cells : (d : List ℕ) → SameTrace c d → putTrace ls d ≡ leaves d
+  pub groups : (d : List ℕ) → SameGroups d (leaves d)
+
+-- The groups of ties ts with numbers ns, that leave what `leaves` says where they are written into d, which has the groups of c
+
+pub record FillsGroups (ts : List Tie) (ns : List ℕ) (c : List ℕ) (leaves : List ℕ → List ℕ) : Type 0 where
+  pub cells : (d : List ℕ) → SameGroups c d → putGroups ts ns d ≡ leaves d
 
 -- the tables that rows leave, part by part, the counts last
-pub put-fills : (r : Rows) (t : Tables) {n0 n1 n2 n3 n4 n5 n6 n7 : ℕ} {n c k e i s o f : List ℕ} {m v z : List ℕ → List ℕ}
+pub put-fills : (r : Rows) (t : Tables) {n0 n1 n2 n3 n4 n5 n6 n7 : ℕ} {n c k e i s o f : List ℕ} {m v z y : List ℕ → List ℕ}
     → Fills putClassRow (r .classes) (t .classes) n0 c → Fills set (r .kept) (t .kept) n1 k → Fills putEntry (r .cache) (t .cache) n2 e
     → Fills putTie (r .ties) (t .ties) n3 i → Fills putSubtype (r .subtypes) (t .subtypes) n4 s → FillsObjects (r .objects) (t .counts) (t .objects) n5 m o
     → FillsFrames (r .quote) (r .report) (t .frames) n6 n7 f
-    → FillsNumbers (r .numbers) (t .counts) v → FillsTrace (r .trace) (t .counts) z
+    → FillsNumbers (r .numbers) (t .counts) v → FillsTrace (r .trace) (t .counts) z → FillsGroups (r .ties) (r .numbers .ties) (t .counts) y
     → FillsCounts (n0 ∷ n1 ∷ n2 ∷ n3 ∷ n4 ∷ n5 ∷ n6 ∷ n7 ∷ []) (t .counts) n
-    → put r t ≡ tables (z (v (m n))) c k e i s o f
+    → put r t ≡ tables (y (z (v (m n)))) c k e i s o f
 unfolding put countsOf
-put-fills r t a b c d e f g v z n =
+put-fills r t a b c d e f g v z y n =
     (λ j. record {
-      counts = putTrace (r .trace) (putNumbers (r .numbers) (writeRows putOwner (r .objects) 0 (writeRows set (a .count j ∷ b .count j ∷ c .count j ∷ d .count j ∷ e .count j ∷ f .count j ∷ g .quote j ∷ g .report j ∷ []) 0 (t .counts))));
+      counts = putGroups (r .ties) (r .numbers .ties) (putTrace (r .trace) (putNumbers (r .numbers) (writeRows putOwner (r .objects) 0 (writeRows set (a .count j ∷ b .count j ∷ c .count j ∷ d .count j ∷ e .count j ∷ f .count j ∷ g .quote j ∷ g .report j ∷ []) 0 (t .counts)))));
       classes = a .cells j;
       kept = b .cells j;
       cache = c .cells j;
@@ -86,7 +95,13 @@ put-fills r t a b c d e f g v z n =
       objects = f .cells j;
       frames = g .cells j;
     })
-    ∙ rw (n .fill .cells, f .owners _ (n .owners), v .cells _ (λ j l. f .numbers _ j l ∙ n .numbers j l), z .cells _ (λ j l. v .trace _ j l ∙ (f .numbers _ j (omega arith) ∙ n .numbers j (omega arith))))
+    ∙ rw (
+      n .fill .cells,
+      f .owners _ (n .owners),
+      v .cells _ (λ j l. f .numbers _ j l ∙ n .numbers j l),
+      z .cells _ (λ j l. v .trace _ j l ∙ (f .numbers _ j (omega arith) ∙ n .numbers j (omega arith))),
+      y .cells _ (λ j l. z .groups _ j l ∙ (v .trace _ j (omega arith) ∙ (f .numbers _ j (omega arith) ∙ n .numbers j (omega arith)))),
+    )
 
 -- Rows as they were read, and with others behind them
 
@@ -231,14 +246,14 @@ module _ (t : Tables) where
 
   -- the trace as it is, none, and any
   pub trace-fill : FillsTrace (traceOf t) (t .counts) (λ d. d)
-  trace-fill = record { cells = λ d h. trace-kept (t .counts) d h }
+  trace-fill = record { cells = λ d h. trace-kept (t .counts) d h; groups = λ d j l. refl }
 
   pub trace-closed : FillsTrace [] (t .counts) (λ d. set d loadsCell 0)
   unfolding putTrace writeStack
-  trace-closed = record { cells = λ d h. refl }
+  trace-closed = record { cells = λ d h. refl; groups = λ d j l. getD-set-other d loadsCell j 0 0 (λ e. omega arith) }
 
   pub trace-first : (n : ℕ) → FillsTrace (stack (levelAt (t .counts)) n) (t .counts) (λ d. set d loadsCell n)
-  trace-first n = record { cells = λ d h. trace-fewer (t .counts) d n h }
+  trace-first n = record { cells = λ d h. trace-fewer (t .counts) d n h; groups = λ d j l. getD-set-other d loadsCell j n 0 (λ e. omega arith) }
 
   -- the first n numbers of each kind
   pub numbers-first : (n m : ℕ) → n ≤ 256
@@ -252,8 +267,15 @@ module _ (t : Tables) where
     trace = λ d j l. refl;
   }
 
-  pub trace-put : (ls : List Level) → FillsTrace ls (t .counts) (putTrace ls)
-  trace-put ls = record { cells = λ d h. refl }
+  pub trace-put : (ls : List Level) → length ls ≤ traceLimit → FillsTrace ls (t .counts) (putTrace ls)
+  trace-put ls few = record { cells = λ d h. refl; groups = λ d j l. putTrace-behind ls d j (omega (arith, few, l)) }
+
+  -- groups as they are, if they are right, and any
+  pub groups-fill : grouped t ≡ true → FillsGroups (tiesOf t) (numbersOf t .ties) (t .counts) (λ d. d)
+  groups-fill h = record { cells = λ d s. groups-same (tiesOf t) (numbersOf t .ties) (t .counts) d (countAt t 3) (grouped-is t h) s }
+
+  pub groups-put : (ts : List Tie) (ns : List ℕ) → FillsGroups ts ns (t .counts) (putGroups ts ns)
+  groups-put ts ns = record { cells = λ d s. refl }
 
   -- frames as they are
   pub frames-fill : FillsFrames (framesOf t 0) (framesOf t 1) (t .frames) (countAt t 6) (countAt t 7) (t .frames)
@@ -266,16 +288,17 @@ module _ (t : Tables) where
         ∙ writeStack-same (putFrameIn 1) (frameIn (t .frames) 1) (t .frames) (frameIn-same (t .frames) 1) (countAt t 7);
   }
 
--- What was read and is put back changes nothing
+-- What was read and is put back changes nothing, where the groups are right
 
-pub put-over : (b : Base) (t : Tables) → put (viewOver b t) t ≡ t
+pub put-over : (b : Base) (t : Tables) → grouped t ≡ true → put (viewOver b t) t ≡ t
 unfolding viewOver
-put-over b t =
-    put-fills (viewOver b t) t (classes-fill t) (kept-fill t) (cache-fill t) (ties-fill t) (subtypes-fill t) (objects-fill t b) (frames-fill t) (numbers-fill t) (trace-fill t) (counts-fill t)
+put-over b t h =
+    put-fills (viewOver b t) t (classes-fill t) (kept-fill t) (cache-fill t) (ties-fill t) (subtypes-fill t) (objects-fill t b) (frames-fill t) (numbers-fill t) (trace-fill t)
+    (groups-fill t h) (counts-fill t)
 
-pub put-view : (t : Tables) → put (view t) t ≡ t
+pub put-view : (t : Tables) → grouped t ≡ true → put (view t) t ≡ t
 unfolding view
-put-view t = put-over (viewBase t) t
+put-view t h = put-over (viewBase t) t h
 
 -- The frames of task k replaced, n of them, that leave u where they are written. The report's rows lie behind the quote's: frames put for the quote must
 -- not reach them.

@@ -7,6 +7,7 @@ pub mod ObjectRows
 pub mod OwnedRows
 pub mod NumberedRows
 pub mod TracedRows
+pub mod GroupedRows
 pub mod InTurn
 pub mod FrameRows
 pub mod Cells

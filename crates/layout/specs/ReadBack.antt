@@ -8,13 +8,16 @@ use native.Mathlib.Omega.{arith}
 use lib.ListN.{length, getD, set, length-set}
 use lib.Dec.{leb}
 use borrow.Author.Tests.{eqb-true, eq-eqb}
-use Rattle.definition.specs.Numbers.{taskLimit, objectLimit, fieldLimit, frameLimit, countsLength, classesLength, keptLength, cacheLength, tiesLength, subtypesLength, objectsLength, framesLength, ownersCell, tieNumbersCell, subtypeNumbersCell, loadsCell, countClasses, countKept, countCache, countTies, countSubtypes, countObjects, countFrames}
+use Rattle.definition.specs.Numbers.{taskLimit, objectLimit, fieldLimit, frameLimit, countsLength, classesLength, keptLength, cacheLength, tiesLength, subtypesLength, objectsLength, framesLength, ownersCell, tieNumbersCell, subtypeNumbersCell, loadsCell, groupsCell, countClasses, countKept, countCache, countTies, countSubtypes, countObjects, countFrames}
 use Rattle.definition.specs.Lists.{rows, writeRows, stack, writeStack}
 use Rattle.definition.specs.Maybe.{_>>=_, need}
+use Rattle.definition.specs.Groups.{groupsOf}
+use Rattle.definition.specs.Constraints.{Tie}
+use Rattle.definition.specs.Broken.{grouped}
 use Rattle.definition.specs.Classes.{Base, Entry, slots, slotsIn, ownSlots}
 use Rattle.definition.specs.Machine.{Value, emptyValue, intValue, nullValue, objectValue, unlistedValue, ObjectRow, free, owned, Objects, Exists, Frame}
 use Rattle.definition.specs.File.{File, byte, readFile, objectClass}
-use Rattle.definition.specs.Tables.{Tables, shaped, ClassRow, RowNumbers, rowNumbers, Level, Rows, rowsOf, fileAt, classAt, baseOf, worldOf, sizeOf, classRowAt, putClassRow, entryAt, putEntry, tieAt, putTie, subtypeAt, putSubtype, ownerAt, putOwner, objectRowAt, putObjectRow, numberAt, levelAt, frameBase, frameIn, putFrameIn, viewBase, objectsOf, framesOf, viewOver, view, countsOf, putNumbers, putTrace, put}
+use Rattle.definition.specs.Tables.{Tables, shaped, ClassRow, RowNumbers, rowNumbers, Level, Rows, rowsOf, fileAt, classAt, baseOf, worldOf, sizeOf, classRowAt, putClassRow, entryAt, putEntry, tieAt, putTie, subtypeAt, putSubtype, ownerAt, putOwner, objectRowAt, putObjectRow, numberAt, levelAt, frameBase, frameIn, putFrameIn, viewBase, objectsOf, framesOf, viewOver, view, countsOf, putNumbers, putTrace, putGroups, put}
 use Rattle.layout.specs.Tests.{All, From, every-true, true-every, all-more}
 use Rattle.layout.specs.Places.{rows-getD, rows-cong, stack-cong, all-stack, writeRows-length, writeStack-length}
 use Rattle.layout.specs.Rows.{stack-back, stack-apart, rows-back, class-rows, entry-rows, tie-rows, subtype-rows, cell-rows}
@@ -22,7 +25,8 @@ use Rattle.layout.specs.Values.{Proper, proper-empty, proper-int, proper
 use Rattle.layout.specs.ObjectRows.{used-all}
 use Rattle.layout.specs.OwnedRows.{putOwner-length, putObjectRow-length, owners-behind, RowProper, object-rows-back}
 use Rattle.layout.specs.NumberedRows.{putNumbers-length, putNumbers-before, ties-back, subtypes-back}
-use Rattle.layout.specs.TracedRows.{putTrace-length, putTrace-before, loads-back, trace-back}
+use Rattle.layout.specs.TracedRows.{putTrace-length, putTrace-before, loads-back, trace-back, level-before}
+use Rattle.layout.specs.GroupedRows.{is-grouped, putGroups-length, putGroups-before, groups-back}
 use Rattle.layout.specs.FrameRows.{putFrame-length, FrameProper, frame-rows}
 use Rattle.layout.specs.Whole.{Local, ValueSound, RowSound, Framed, First, ClassSound, Classes, Whole}
 
@@ -75,9 +79,10 @@ pub put-lengths : (r : Rows) (t : Tables) → Lengths t → Lengths (put r t)
 unfolding put putFrameIn
 put-lengths r t l = record {
   counts =
-      putTrace-length (r .trace) (putNumbers (r .numbers) (writeRows putOwner (r .objects) 0 (writeRows set (countsOf r) 0 (t .counts))))
+      putGroups-length (r .ties) (r .numbers .ties) (putTrace (r .trace) (putNumbers (r .numbers) (writeRows putOwner (r .objects) 0 (writeRows set (countsOf r) 0 (t .counts)))))
+      ∙ (putTrace-length (r .trace) (putNumbers (r .numbers) (writeRows putOwner (r .objects) 0 (writeRows set (countsOf r) 0 (t .counts))))
       ∙ (putNumbers-length (r .numbers) (writeRows putOwner (r .objects) 0 (writeRows set (countsOf r) 0 (t .counts)))
-      ∙ (writeRows-length putOwner putOwner-length (r .objects) 0 (writeRows set (countsOf r) 0 (t .counts)) ∙ (writeRows-length set length-set (countsOf r) 0 (t .counts) ∙ l .counts)));
+      ∙ (writeRows-length putOwner putOwner-length (r .objects) 0 (writeRows set (countsOf r) 0 (t .counts)) ∙ (writeRows-length set length-set (countsOf r) 0 (t .counts) ∙ l .counts))));
   classes = writeRows-length putClassRow (class-rows .long) (r .classes) 0 (t .classes) ∙ l .classes;
   kept = writeRows-length set length-set (r .kept) 0 (t .kept) ∙ l .kept;
   cache = writeRows-length putEntry (entry-rows .long) (r .cache) 0 (t .cache) ∙ l .cache;
@@ -148,26 +153,27 @@ frame-proper n X f h = record {
 
 -- Reading what was put
 
--- the eight counts, with owners, numbers and trace written behind them
+-- the eight counts, with owners, numbers, trace and groups written behind them
 pub counts-put : (r : Rows) (c : List ℕ) → length c ≡ countsLength → (j : ℕ) → j < ownersCell
-    → getD (putTrace (r .trace) (putNumbers (r .numbers) (writeRows putOwner (r .objects) 0 (writeRows set (countsOf r) 0 c)))) j 0 ≡ getD (countsOf r) j 0
+    → getD (putGroups (r .ties) (r .numbers .ties) (putTrace (r .trace) (putNumbers (r .numbers) (writeRows putOwner (r .objects) 0 (writeRows set (countsOf r) 0 c))))) j 0 ≡ getD (countsOf r) j 0
 unfolding countsOf
 counts-put r c e j l =
     let u : List ℕ = writeRows set (countsOf r) 0 c in
     let z : 0 + j ≡ j = omega arith in
-    putTrace-before (r .trace) (putNumbers (r .numbers) (writeRows putOwner (r .objects) 0 u)) j (omega arith)
+    putGroups-before (r .ties) (r .numbers .ties) (putTrace (r .trace) (putNumbers (r .numbers) (writeRows putOwner (r .objects) 0 u))) j (omega arith)
+    ∙ (putTrace-before (r .trace) (putNumbers (r .numbers) (writeRows putOwner (r .objects) 0 u)) j (omega arith)
     ∙ (putNumbers-before (r .numbers) (writeRows putOwner (r .objects) 0 u) j (omega arith)
     ∙ (owners-behind (r .objects) 0 u j l
-    ∙ (sym (rw z at (rows-getD (λ i. getD u i 0) 8 0 j 0 l)) ∙ ap (λ (z : List ℕ). getD z j 0) (rows-back cell-rows (countsOf r) c (omega arith)))))
+    ∙ (sym (rw z at (rows-getD (λ i. getD u i 0) 8 0 j 0 l)) ∙ ap (λ (z : List ℕ). getD z j 0) (rows-back cell-rows (countsOf r) c (omega arith))))))
 
-objects-put : (b : Base) (n : ℕ) (X : ℕ → Type 0) (os : Objects) (ns : RowNumbers) (ls : List Level) (c t : List ℕ) → length c ≡ countsLength → length t ≡ objectsLength → length os ≤ objectLimit
+objects-put : (b : Base) (n : ℕ) (X : ℕ → Type 0) (os : Objects) (ts : List Tie) (ns : RowNumbers) (ls : List Level) (c t : List ℕ) → length c ≡ countsLength → length t ≡ objectsLength → length os ≤ objectLimit
     → ((c : ℕ) → c < n → sizeOf b c ≤ fieldLimit) → All (RowSound b n X) os
-    → rows (objectRowAt b (putTrace ls (putNumbers ns (writeRows putOwner os 0 c))) (writeRows putObjectRow os 0 t)) (length os) 0 ≡ os
+    → rows (objectRowAt b (putGroups ts (ns .ties) (putTrace ls (putNumbers ns (writeRows putOwner os 0 c)))) (writeRows putObjectRow os 0 t)) (length os) 0 ≡ os
 unfolding objectRowAt ownerAt
-objects-put b n X os ns ls c t d e l small h =
+objects-put b n X os ts ns ls c t d e l small h =
     let u : List ℕ = writeRows putOwner os 0 c in
-    rows-cong (objectRowAt b (putTrace ls (putNumbers ns u)) (writeRows putObjectRow os 0 t)) (objectRowAt b u (writeRows putObjectRow os 0 t)) (length os) 0
-    (λ o a k. rw (putTrace-before ls (putNumbers ns u) (ownersCell + o) (omega arith), putNumbers-before ns u (ownersCell + o) (omega arith)))
+    rows-cong (objectRowAt b (putGroups ts (ns .ties) (putTrace ls (putNumbers ns u))) (writeRows putObjectRow os 0 t)) (objectRowAt b u (writeRows putObjectRow os 0 t)) (length os) 0
+    (λ o a k. rw (putGroups-before ts (ns .ties) (putTrace ls (putNumbers ns u)) (ownersCell + o) (omega arith), putTrace-before ls (putNumbers ns u) (ownersCell + o) (omega arith), putNumbers-before ns u (ownersCell + o) (omega arith)))
     ∙ object-rows-back b os c t (omega arith) (omega arith) (all-more proper os h)
   where
     proper : (x : ObjectRow) → RowSound b n X x → RowProper b x
@@ -192,7 +198,8 @@ frames-behind n gs t l m h q = stack-cong (frameIn (writeStack (putFrameIn 1) gs
     stack-apart frame-rows (1 * frameLimit) gs (0 * frameLimit + i) t (λ j b e. omega arith) h (all-stack FrameProper (frameIn t 0) n q i k))
 
 module _ (r : Rows) (t : Tables) (l : Lengths t) (w : Whole r) where
-  abbrev counted : (j : ℕ) → j < ownersCell → getD (putTrace (r .trace) (putNumbers (r .numbers) (writeRows putOwner (r .objects) 0 (writeRows set (countsOf r) 0 (t .counts))))) j 0 ≡ getD (countsOf r) j 0
+  abbrev counted : (j : ℕ) → j < ownersCell
+      → getD (putGroups (r .ties) (r .numbers .ties) (putTrace (r .trace) (putNumbers (r .numbers) (writeRows putOwner (r .objects) 0 (writeRows set (countsOf r) 0 (t .counts)))))) j 0 ≡ getD (countsOf r) j 0
   counted = counts-put r (t .counts) (l .counts)
 
   classes-read : rows (classRowAt (writeRows putClassRow (r .classes) 0 (t .classes))) (length (r .classes)) 0 ≡ r .classes
@@ -213,7 +220,7 @@ module _ (r : Rows) (t : Tables) (l : Lengths t) (w : Whole r) where
   objects-read : rows (objectRowAt (worldOf r .base) (put r t .counts) (put r t .objects)) (length (r .objects)) 0 ≡ r .objects
   unfolding put
   objects-read =
-      objects-put (worldOf r .base) (length (r .classes)) (Exists (r .objects)) (r .objects) (r .numbers) (r .trace) (writeRows set (countsOf r) 0 (t .counts)) (t .objects)
+      objects-put (worldOf r .base) (length (r .classes)) (Exists (r .objects)) (r .objects) (r .ties) (r .numbers) (r .trace) (writeRows set (countsOf r) 0 (t .counts)) (t .objects)
       (writeRows-length set length-set (countsOf r) 0 (t .counts) ∙ l .counts) (l .objects) (w .limits .objects)
       (size-small (r .cache) (r .kept) (r .classes) (w .classes)) (w .objects)
 
@@ -230,24 +237,42 @@ module _ (r : Rows) (t : Tables) (l : Lengths t) (w : Whole r) where
   traceless-length : length traceless ≡ countsLength
   traceless-length = putNumbers-length (r .numbers) numberless ∙ numberless-length
 
-  trace-count : getD (putTrace (r .trace) traceless) loadsCell 0 ≡ length (r .trace)
-  trace-count = loads-back (r .trace) traceless (omega (arith, traceless-length))
+  abbrev groupless : List ℕ
+  groupless = putTrace (r .trace) traceless
 
-  trace-read : stack (levelAt (putTrace (r .trace) traceless)) (length (r .trace)) ≡ r .trace
-  trace-read = trace-back (r .trace) traceless (omega (arith, traceless-length, w .limits .trace))
+  groupless-length : length groupless ≡ countsLength
+  groupless-length = putTrace-length (r .trace) traceless ∙ traceless-length
 
-  numbers-read : (s n : ℕ) → s + n ≤ loadsCell → rows (numberAt s (putTrace (r .trace) traceless)) n 0 ≡ rows (numberAt s traceless) n 0
+  abbrev allWritten : List ℕ
+  allWritten = putGroups (r .ties) (r .numbers .ties) groupless
+
+  trace-count : getD allWritten loadsCell 0 ≡ length (r .trace)
+  trace-count = putGroups-before (r .ties) (r .numbers .ties) groupless loadsCell (omega arith) ∙ loads-back (r .trace) traceless (omega (arith, traceless-length))
+
+  trace-read : stack (levelAt allWritten) (length (r .trace)) ≡ r .trace
+  trace-read =
+      stack-cong (levelAt allWritten) (levelAt groupless) (length (r .trace))
+      (λ i k. level-before groupless allWritten groupsCell (λ j m. putGroups-before (r .ties) (r .numbers .ties) groupless j m) i (omega (arith, k, w .limits .trace)))
+      ∙ trace-back (r .trace) traceless (omega (arith, traceless-length, w .limits .trace))
+
+  numbers-read : (s n : ℕ) → s + n ≤ loadsCell → rows (numberAt s allWritten) n 0 ≡ rows (numberAt s traceless) n 0
   unfolding numberAt
-  numbers-read s n h = rows-cong (numberAt s (putTrace (r .trace) traceless)) (numberAt s traceless) n 0 (λ m a k. putTrace-before (r .trace) traceless (s + m) (omega arith))
+  numbers-read s n h =
+      rows-cong (numberAt s allWritten) (numberAt s traceless) n 0
+      (λ m a k. putGroups-before (r .ties) (r .numbers .ties) groupless (s + m) (omega arith) ∙ putTrace-before (r .trace) traceless (s + m) (omega arith))
 
-  tie-numbers-read : rows (numberAt tieNumbersCell (putTrace (r .trace) traceless)) (length (r .ties)) 0 ≡ r .numbers .ties
+  tie-numbers-read : rows (numberAt tieNumbersCell allWritten) (length (r .ties)) 0 ≡ r .numbers .ties
   tie-numbers-read = numbers-read tieNumbersCell (length (r .ties)) (omega (arith, w .limits .ties)) ∙ rw (← w .numbers .ties) (ties-back (r .numbers) numberless (omega (arith, numberless-length, w .numbers .ties, w .limits .ties)))
 
-  subtype-numbers-read : rows (numberAt subtypeNumbersCell (putTrace (r .trace) traceless)) (length (r .subtypes)) 0 ≡ r .numbers .subtypes
+  subtype-numbers-read : rows (numberAt subtypeNumbersCell allWritten) (length (r .subtypes)) 0 ≡ r .numbers .subtypes
   subtype-numbers-read =
       numbers-read subtypeNumbersCell (length (r .subtypes)) (omega (arith, w .limits .subtypes))
       ∙ rw (← w .numbers .subtypes) (subtypes-back (r .numbers) numberless (omega (arith, w .numbers .ties, w .limits .ties))
       (omega (arith, numberless-length, w .numbers .subtypes, w .limits .subtypes)))
+
+  -- and groups are those of the rows
+  groups-read : rows (numberAt groupsCell allWritten) (length (r .ties)) 0 ≡ groupsOf (r .ties) (r .numbers .ties)
+  groups-read = groups-back (r .ties) (r .numbers .ties) groupless (omega (arith, groupless-length, w .limits .ties))
 
   abbrev quoted : List ℕ
   quoted = writeStack (putFrameIn 0) (r .quote) (t .frames)
@@ -298,3 +323,11 @@ module _ (r : Rows) (t : Tables) (l : Lengths t) (w : Whole r) where
       (stack (levelAt (put r t .counts)) (trace-count i)))
       ∙ (λ i. rowsOf (classes-read i) (kept-read i) (cache-read i) (ties-read i) (subtypes-read i) (objects-read i) (quote-read i) (report-read i)
       (rowNumbers (tie-numbers-read i) (subtype-numbers-read i)) (trace-read i))
+
+  -- what was put has the right groups
+  pub put-grouped : grouped (put r t) ≡ true
+  unfolding put countsOf
+  put-grouped =
+      is-grouped (put r t)
+      ((λ i. rows (numberAt groupsCell (put r t .counts)) (counted countTies (omega arith) i) 0)
+      ∙ (groups-read ∙ (unfold view viewOver in ap (λ (x : Rows). groupsOf (x .ties) (x .numbers .ties)) (sym view-put))))

@@ -120,6 +120,13 @@ same-levels c d h i =
     let k : ℕ = traceCell + i * levelCells in
     λ x. level (sym (h k (omega arith)) x) (sym (h (k + 1) (omega arith)) x) (sym (h (k + 2) (omega arith)) x) (sym (h (k + 3) (omega arith)) x) (sym (h (k + 4) (omega arith)) x)
 
+-- a level is read off cells below m alone, if the row's five are
+pub level-before : (c d : List ℕ) (m : ℕ) → ((j : ℕ) → j < m → getD d j 0 ≡ getD c j 0) → (i : ℕ) → traceCell + i * levelCells + levelCells ≤ m → levelAt d i ≡ levelAt c i
+unfolding levelAt
+level-before c d m h i l =
+    let k : ℕ = traceCell + i * levelCells in
+    λ x. level (h k (omega (arith, l)) x) (h (k + 1) (omega (arith, l)) x) (h (k + 2) (omega (arith, l)) x) (h (k + 3) (omega (arith, l)) x) (h (k + 4) (omega (arith, l)) x)
+
 -- the trace as it was read off c, written where it is the same
 pub trace-kept : (c d : List ℕ) → SameTrace c d → putTrace (stack (levelAt c) (getD c loadsCell 0)) d ≡ d
 unfolding putTrace

@@ -1,5 +1,5 @@
--- Word 1 read in full: tables are not broken exactly if their lengths are the published ones, their counts are within the limits and their rows are
--- sound. So whole rows that a call puts leave tables that are not broken.
+-- Word 1 read in full: tables are not broken exactly if their lengths are the published ones, their counts are within the limits, their rows are sound and
+-- their groups are those of the ties. So whole rows that a call puts leave tables that are not broken.
 use mathlib.Core.Path.{_≡_, sym, ap, _∙_}
 use mathlib.Core.Bool.{true, false, not}
 use mathlib.Core.List.{List}
@@ -11,13 +11,13 @@ use Rattle.definition.specs.Lists.{rows, stack}
 use Rattle.definition.specs.Classes.{Base}
 use Rattle.definition.specs.Machine.{Exists}
 use Rattle.definition.specs.Tables.{Tables, Rows, sizeOf, usedFields, classRowAt, entryAt, tieAt, subtypeAt, objectAt, ownedBy, ownerAt, objectRowAt, numberAt, levelAt, localAt, fieldAt, frameOf, frameAt, frameBase, frameIn, classRowsOf, keptOf, cacheOf, viewBase, objectsOf, framesOf, viewOver, view, put}
-use Rattle.definition.specs.Broken.{within, whole, broken}
+use Rattle.definition.specs.Broken.{within, grouped, whole, broken}
 use Rattle.layout.specs.Tests.{All, every-true, true-every}
 use Rattle.layout.specs.Places.{rows-length, stack-length}
 use Rattle.layout.specs.ObjectRows.{used-all}
 use Rattle.layout.specs.Whole.{RowSound, Framed, RowOwned, Frames, Limits, Whole, Sound, sound-true, sound-is, whole-sound}
 use Rattle.layout.specs.Traced.{Traced, fits-trace, trace-fits}
-use Rattle.layout.specs.ReadBack.{Lengths, shaped-true, true-shaped, put-lengths, size-small, view-put}
+use Rattle.layout.specs.ReadBack.{Lengths, shaped-true, true-shaped, put-lengths, size-small, view-put, put-grouped}
 
 -- Counts within their limits
 
@@ -65,23 +65,30 @@ true-within c h =
       ),
     )
 
--- Word 1, in full: the published lengths, counts within their limits, sound rows, and each load that can be taken back leaves sound rows
+-- Word 1, in full: the published lengths, counts within their limits, sound rows, each load that can be taken back leaves sound rows, and the groups are right
 
 pub record Unbroken (t : Tables) : Type 0 where
   pub lengths : Lengths t
   pub counts : Counts (t .counts)
   pub sounds : Sound (view t)
   pub traces : Traced (view t)
+  pub groups : grouped t ≡ true
 
 pub unbroken : (t : Tables) → broken t ≡ false → Unbroken t
 unfolding broken whole
 unbroken t h =
     let p = every-true _ (not-false (whole t) h) in
-    record { lengths = shaped-true t (p .0); counts = within-true (t .counts) (p .1 .0); sounds = sound-true (view t) (p .1 .1 .0); traces = fits-trace (view t .trace) (view t) (p .1 .1 .1 .0) }
+    record {
+      lengths = shaped-true t (p .0);
+      counts = within-true (t .counts) (p .1 .0);
+      sounds = sound-true (view t) (p .1 .1 .0);
+      traces = fits-trace (view t .trace) (view t) (p .1 .1 .1 .0);
+      groups = p .1 .1 .1 .1 .0;
+    }
 
 pub unbroken-is : (t : Tables) → Unbroken t → broken t ≡ false
 unfolding broken whole
-unbroken-is t u = ap not (true-every _ (true-shaped t (u .lengths), (true-within (t .counts) (u .counts), (sound-is (view t) (u .sounds), (trace-fits (view t .trace) (view t) (u .traces), tt)))))
+unbroken-is t u = ap not (true-every _ (true-shaped t (u .lengths), (true-within (t .counts) (u .counts), (sound-is (view t) (u .sounds), (trace-fits (view t .trace) (view t) (u .traces), (u .groups, tt))))))
 
 -- The counts are the numbers of rows read
 
@@ -164,14 +171,14 @@ view-whole t c s = record {
   share = s .share;
 }
 
--- Tables that are not broken show whole rows, and tables of the published lengths that show whole rows are not broken
+-- Tables that are not broken show whole rows, and tables of the published lengths with the right groups that show whole rows are not broken
 
 pub broken-false : (t : Tables) → broken t ≡ false → Lengths t × Whole (view t) × Traced (view t)
 broken-false t h = let u = unbroken t h in (u .lengths, view-whole t (u .counts) (u .sounds), u .traces)
 
-pub false-broken : (t : Tables) → Lengths t → Whole (view t) → Traced (view t) → broken t ≡ false
-false-broken t l w b = unbroken-is t (record { lengths = l; counts = limits-view t (w .limits); sounds = whole-sound (view t) w; traces = b })
+pub false-broken : (t : Tables) → Lengths t → Whole (view t) → Traced (view t) → grouped t ≡ true → broken t ≡ false
+false-broken t l w b g = unbroken-is t (record { lengths = l; counts = limits-view t (w .limits); sounds = whole-sound (view t) w; traces = b; groups = g })
 
 -- whole rows that are put leave tables that are not broken
 pub true-whole : (r : Rows) (t : Tables) → Lengths t → Whole r → Traced r → broken (put r t) ≡ false
-true-whole r t l w b = false-broken (put r t) (put-lengths r t l) (rw (view-put r t l w) w) (rw (view-put r t l w) b)
+true-whole r t l w b = false-broken (put r t) (put-lengths r t l) (rw (view-put r t l w) w) (rw (view-put r t l w) b) (put-grouped r t l w)

@@ -1,14 +1,15 @@
 -- In a program each table starts as zeros: a store of no rows, every row free, which isn't broken.
 use mathlib.Core.Path.{_≡_, refl, sym, subst}
-use mathlib.Core.Bool.{false}
+use mathlib.Core.Bool.{true, false}
 use Prim.Native.Nat.{ℕ}
 use native.Mathlib.Omega.{arith}
 use lib.ListN.{length-replicate}
 use Rattle.definition.specs.Numbers.{countsLength, classesLength, keptLength, cacheLength, tiesLength, subtypesLength, objectsLength, framesLength}
-use Rattle.definition.specs.Lists.{rows, stack}
+use Rattle.definition.specs.Lists.{rows, stack, sameList}
+use Rattle.definition.specs.Groups.{groupsOf}
 use Rattle.definition.specs.Machine.{madeBy}
 use Rattle.definition.specs.Tables.{noRows, objectsOf, framesOf, viewOver, view, zeros}
-use Rattle.definition.specs.Broken.{inTurn, numbered, broken}
+use Rattle.definition.specs.Broken.{inTurn, numbered, grouped, broken}
 use Rattle.layout.specs.Whole.{Whole}
 use Rattle.layout.specs.Traced.{Traced}
 use Rattle.layout.specs.ReadBack.{Lengths}
@@ -56,5 +57,9 @@ none-whole = record {
   share = unfold madeBy in omega arith;
 }
 
+zeros-grouped : grouped zeros ≡ true
+unfolding grouped view viewOver rows sameList groupsOf zeros
+zeros-grouped = refl
+
 pub zeros-whole : broken zeros ≡ false
-zeros-whole = false-broken zeros zeros-lengths (subst Whole (sym zeros-view) none-whole) (subst Traced (sym zeros-view) tt)
+zeros-whole = false-broken zeros zeros-lengths (subst Whole (sym zeros-view) none-whole) (subst Traced (sym zeros-view) tt) zeros-grouped

@@ -26,7 +26,7 @@ use Rattle.definition.specs.Calls.{Done, done, carried, closed, dropRows, callD
 use Rattle.laws.specs.Results.{bind-ok, ok-inj}
 use Rattle.laws.specs.Wrapped.{wrap-carried}
 use Rattle.layout.specs.View.{drop-writes}
-use Rattle.layout.specs.Unbroken.{broken-false}
+use Rattle.layout.specs.Unbroken.{unbroken, broken-false}
 use Rattle.layout.specs.ReadBack.{view-put}
 use Rattle.unbroken.specs.Steps.{pop-is}
 use Rattle.unbroken.specs.Cut.{whole-traced}
@@ -131,4 +131,4 @@ module _ (t : Tables) (k : ℕ) (h : broken t ≡ false) (two : k < 2) where
   -- and of the cells nothing changes but the count of that task's frames and that of the loads
   pub drop-tables : perform (callDrop k) t .tables ≡ tables (set (set (t .counts) (countFrames + k) 0) loadsCell 0) (t .classes) (t .kept) (t .cache) (t .ties) (t .subtypes) (t .objects) (t .frames)
   unfolding view
-  drop-tables = ap (λ (d : Done Reply). d .tables) drop-done ∙ drop-writes (viewBase t) t k two
+  drop-tables = ap (λ (d : Done Reply). d .tables) drop-done ∙ drop-writes (viewBase t) t k two (unbroken t h .groups)

@@ -29,6 +29,7 @@ pub mod Rates
 pub mod HiddenFields
 pub mod FieldsLast
 pub mod TakenBack
+pub mod Groups
 pub mod History
 pub mod Share
 pub mod Branches

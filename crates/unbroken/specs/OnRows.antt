@@ -19,7 +19,7 @@ use Rattle.laws.specs.Wrapped.{wrapped, ok-at}
 use Rattle.layout.specs.Whole.{Whole}
 use Rattle.layout.specs.Traced.{Traced}
 use Rattle.layout.specs.View.{put-view}
-use Rattle.layout.specs.Unbroken.{true-whole, broken-false}
+use Rattle.layout.specs.Unbroken.{unbroken, true-whole, broken-false}
 use Rattle.layout.specs.ReadBack.{Lengths, shaped-true, true-shaped, view-put}
 use Rattle.unbroken.specs.Calls.{step-whole, rows-whole, boot-whole, boot-traced}
 use Rattle.unbroken.specs.Unbroken.{Unhurt, Keeps}
@@ -118,7 +118,7 @@ same-booted cs t h = same-all cs (boot t .tables) bootRows (same-boot t h .1)
 still : {A : Type 0} (deny : Refusal → A) (f : Rows → Result (Given A)) (t : Tables) → onRows deny f (view t) .rows ≡ view t → wrap deny f t .tables ≡ t
 unfolding onRows settle
 still deny f t q = wrapped deny f t (λ _ z. z ≡ t) (λ _. refl) (λ _ _. refl)
-    (λ _ g e. ap (λ (x : Rows). put x t) (sym (ap (λ (o : Result (Given _)). settle deny (view t) o .rows) e) ∙ q) ∙ put-view t)
+    (λ b g e. ap (λ (x : Rows). put x t) (sym (ap (λ (o : Result (Given _)). settle deny (view t) o .rows) e) ∙ q) ∙ put-view t (unbroken t b .groups))
 
 abbrev pub OneStep : Call → Type 0
 OneStep callBoot = ⊥

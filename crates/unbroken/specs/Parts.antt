@@ -25,6 +25,7 @@ use Rattle.laws.specs.Sweeps.{sweep-keeps, sweep-left}
 use Rattle.laws.specs.Turns.{idle-empty}
 use Rattle.laws.specs.Wrapped.{wrapped, Ok, ok-at, then}
 use Rattle.laws.specs.Tried.{try-leaves}
+use Rattle.layout.specs.Unbroken.{unbroken}
 use Rattle.layout.specs.View.{put-view}
 use Rattle.unbroken.specs.Accepted.{Entered, Stood, recorded-is, defined-is}
 use Rattle.unbroken.specs.Calls.{rows-whole, step-whole}
@@ -286,5 +287,5 @@ pub idle-same : (t : Tables) → stepTables t .answer ≡ Idle → stepTables t 
 unfolding stepTables
 idle-same t h =
     let none = idle-empty t h in
-    wrapped Refused stepRows t (λ _ z. z ≡ t) (λ _. refl) (λ _ _. refl) (λ _ g e.
-    ap (λ (x : Given Answer). put (x .rows) t) (ok-inj (sym e ∙ idle-rows (view t) (none .0) (none .1))) ∙ put-view t)
+    wrapped Refused stepRows t (λ _ z. z ≡ t) (λ _. refl) (λ _ _. refl) (λ b g e.
+    ap (λ (x : Given Answer). put (x .rows) t) (ok-inj (sym e ∙ idle-rows (view t) (none .0) (none .1))) ∙ put-view t (unbroken t b .groups))

@@ -14,6 +14,7 @@ use Rattle.definition.specs.Tables.{Tables, Rows, worldOf, view, put}
 use Rattle.definition.specs.Calls.{Given, addEntry, recordRows, callRecord, perform, Done, carried}
 use Rattle.laws.specs.Results.{bind-ok, ok-inj}
 use Rattle.laws.specs.Wrapped.{wrapped, wrap-carried}
+use Rattle.layout.specs.Unbroken.{unbroken}
 use Rattle.layout.specs.View.{put-view}
 use lib.ListN.{getElem?}
 use Rattle.unbroken.specs.Traces.{entry-there}
@@ -32,10 +33,10 @@ there-same l n c d w v h e =
 
 pub record-there : (l n c d : ℕ) (t : Tables) → find (view t .cache) (at l n) ≡ some d → perform (callRecord l n c) t .tables ≡ t
 unfolding perform recordRows
-record-there l n c d t h = wrapped Denied (recordRows l n c) t (λ _ z. z ≡ t) (λ _. refl) (λ _ _. refl) (λ _ g e.
+record-there l n c d t h = wrapped Denied (recordRows l n c) t (λ _ z. z ≡ t) (λ _. refl) (λ _ _. refl) (λ b g e.
     let a = bind-ok _ _ e in
     let z : addEntry (view t) (a .0) ≡ g .rows = ap (λ (x : Given Reply). x .rows) (ok-inj (a .2)) in
-    ap (λ (r : Rows). put r t) (sym z ∙ (ap (addEntry (view t)) (there-same l n c d (worldOf (view t)) (a .0) h (a .1)) ∙ entry-there (view t))) ∙ put-view t)
+    ap (λ (r : Rows). put r t) (sym z ∙ (ap (addEntry (view t)) (there-same l n c d (worldOf (view t)) (a .0) h (a .1)) ∙ entry-there (view t))) ∙ put-view t (unbroken t b .groups))
 
 -- and it is accepted, where the store isn't broken and the class is there by that name
 

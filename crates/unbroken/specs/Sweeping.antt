@@ -116,7 +116,7 @@ module _ (t : Tables) (h : broken t ≡ false) where
 
   written : after ≡ tables (set (writeRows putOwner (swept os fs) 0 (t .counts)) loadsCell 0) (t .classes) (t .kept) (t .cache) (t .ties) (t .subtypes) (t .objects) (t .frames)
   unfolding view viewOver
-  written = ap (λ (d : Done Reply). d .tables) sweep-done ∙ sweep-writes (viewBase t) t (reached os fs) (unbroken t h .counts .objects)
+  written = ap (λ (d : Done Reply). d .tables) sweep-done ∙ sweep-writes (viewBase t) t (reached os fs) (unbroken t h .counts .objects) (unbroken t h .groups)
 
   owner-read : (o : ℕ) (x : ObjectRow) → getElem? os o ≡ some x → ownerOf x ≡ ownerAt (t .counts) o
   unfolding view viewOver
@@ -187,7 +187,7 @@ sweep-twice t h =
     let same : closed (withObjects (swept (view u .objects) (allFrames (view u))) (view u)) ≡ view u =
     ap (λ (r : Rows). closed (withObjects (swept (r .objects) (allFrames r)) r)) s
     ∙ (ap (λ (qs : Objects). closed (withObjects qs (view t))) (sweep-again (view t .objects) (allFrames (view t))) ∙ sym s) in
-    sweep-done u b ∙ λ i. done (Swept (none i)) ((ap (λ (r : Rows). put r u) same ∙ put-view u) i)
+    sweep-done u b ∙ λ i. done (Swept (none i)) ((ap (λ (r : Rows). put r u) same ∙ put-view u (unbroken u b .groups)) i)
 
 -- No place names an object that doesn't exist, of rows that are whole: a freed number stands nowhere
 

@@ -5,21 +5,22 @@ use mathlib.Core.Bool.{Bool, true, false, false≢true, _&&_}
 use mathlib.Core.Option.{Option, none, some, Option·none-ne-some, Option·some-injective}
 use mathlib.Core.List.{List, [], _∷_, _++_}
 use mathlib.Core.Logic.{_⊎_, inl, inr, _≢_}
-use Prim.Native.Nat.{ℕ, zero, suc, _+_, _-_, _≤_}
+use Prim.Native.Nat.{ℕ, zero, suc, _+_, _-_, _≤_, _<_}
 use native.Mathlib.Omega.{arith}
-use lib.ListN.{length, getElem?, getD, set, take, replicate, length-append}
+use lib.ListN.{length, getElem?, getD, set, take, replicate, length-append, length-set}
 use lib.Dec.{leb, ltb}
 use borrow.Author.Tests.{lt-ltb, le-ltb}
-use lib.Seq.{take-take, take-all, getD-set-other}
+use lib.Seq.{take-take, take-all, getD-set-same, getD-set-other}
 use Rattle.definition.specs.declared.Refusal.{Refusal}
 use Rattle.definition.specs.declared.Refusal.the-variants.{Word}
 use Rattle.definition.specs.declared.Answer.{Answer}
 use Rattle.definition.specs.declared.Answer.the-variants.{Idle, Ran, Finished, Refused}
 use Rattle.definition.specs.declared.Reply.{Reply}
 use Rattle.definition.specs.declared.Reply.the-variants.{Accepted, Denied}
-use Rattle.definition.specs.Numbers.{wordLate, loadsCell}
-use Rattle.definition.specs.Lists.{stack}
-use Rattle.definition.specs.Tables.{Tables, tables, shaped, Level, Rows, levelOf, cutTo, withTrace, levelAt, worldOf, viewBase, viewOver, view, put}
+use Rattle.definition.specs.Numbers.{wordLate, countTies, tieNumbersCell, loadsCell, groupsCell}
+use Rattle.definition.specs.Lists.{rows, stack}
+use Rattle.definition.specs.Constraints.{Tie}
+use Rattle.definition.specs.Tables.{Tables, tables, shaped, Level, Rows, levelOf, cutTo, withTrace, tieAt, numberAt, levelAt, worldOf, viewBase, viewOver, view, putGroups, put}
 use Rattle.definition.specs.Broken.{traceFits, broken}
 use Rattle.definition.specs.Machine.{Frame}
 use Rattle.definition.specs.Calls.{Given, Done, done, carried, boot, takenBack, Load, loadDefine, loadRecord, RowCall, rowDefine, rowRecord, rowStart, rowDrop, rowSweep, rowTry, rowTakeBack, onRowCall, Call, callBoot, callRows, callStep, callRun, callTakeBack, stepTask, stepOn, stepTables, stepRows, goOn, runFrom, run, perform, performAll}
@@ -35,6 +36,8 @@ use Rattle.layout.specs.Whole.{Whole, whole-sound}
 use Rattle.unbroken.specs.Cut.{cut-whole}
 use Rattle.layout.specs.Fills.{countAt, classes-fill, kept-fill, cache-fill, ties-fill, subtypes-fill}
 use Rattle.layout.specs.View.{back-writes}
+use Rattle.layout.specs.Places.{rows-length}
+use Rattle.layout.specs.GroupedRows.{putGroups-before, putGroups-behind}
 use Rattle.layout.specs.ReadBack.{view-put}
 use Rattle.layout.specs.Unbroken.{unbroken, broken-false}
 use Rattle.unbroken.specs.Calls.{rows-whole, step-whole}
@@ -310,9 +313,10 @@ loads-lost cs t h o k =
 
 -- The tables
 
--- no table but the counts changes, in any cell, and of the counts no cell but the first five and that of loads
+-- no table but the counts changes, in any cell, and of the counts no cell but the first five, that of loads and the groups of the ties left
 pub record BackLeaves (t u : Tables) : Type 0 where
-  pub counts : (j : ℕ) → 5 ≤ j → j ≢ loadsCell → getD (u .counts) j 0 ≡ getD (t .counts) j 0
+  pub counts : (j : ℕ) → 5 ≤ j → j < groupsCell → j ≢ loadsCell → getD (u .counts) j 0 ≡ getD (t .counts) j 0
+  pub groups : (j : ℕ) → groupsCell + countAt u countTies ≤ j → getD (u .counts) j 0 ≡ getD (t .counts) j 0
   pub classes : u .classes ≡ t .classes
   pub kept : u .kept ≡ t .kept
   pub cache : u .cache ≡ t .cache
@@ -336,7 +340,9 @@ five-counts c l n j h e =
 
 back-written : (t : Tables) → broken t ≡ false → (n : ℕ) (l : Level) → Under l (view t)
     → put (withTrace (stack (levelAt (t .counts)) n) (cutTo l (view t))) t
-    ≡ tables (set (set (set (set (set (set (t .counts) 0 (l .classes)) 1 (l .kept)) 2 (l .cache)) 3 (l .ties)) 4 (l .subtypes)) loadsCell n)
+    ≡ tables
+    (putGroups (rows (tieAt (t .ties)) (l .ties) 0) (rows (numberAt tieNumbersCell (t .counts)) (l .ties) 0)
+    (set (set (set (set (set (set (t .counts) 0 (l .classes)) 1 (l .kept)) 2 (l .cache)) 3 (l .ties)) 4 (l .subtypes)) loadsCell n))
     (t .classes) (t .kept) (t .cache) (t .ties) (t .subtypes) (t .objects) (t .frames)
 unfolding view viewOver
 back-written t h n l v =
@@ -346,10 +352,12 @@ back-written t h n l v =
 trace-read : (t : Tables) (n : ℕ) → countAt t loadsCell ≡ n → view t .trace ≡ stack (levelAt (t .counts)) n
 trace-read t n e = unfold view viewOver in ap (stack (levelAt (t .counts))) e
 
--- where there is a load: the five counts of its level, and one load less
+-- where there is a load: the five counts of its level, one load less, and the groups of the ties left, made anew
 pub taken-written : (t : Tables) → broken t ≡ false → (n : ℕ) → countAt t loadsCell ≡ suc n
     → (let l = levelAt (t .counts) n in perform callTakeBack t
-    ≡ done Accepted (tables (set (set (set (set (set (set (t .counts) 0 (l .classes)) 1 (l .kept)) 2 (l .cache)) 3 (l .ties)) 4 (l .subtypes)) loadsCell n)
+    ≡ done Accepted (tables
+    (putGroups (rows (tieAt (t .ties)) (l .ties) 0) (rows (numberAt tieNumbersCell (t .counts)) (l .ties) 0)
+    (set (set (set (set (set (set (t .counts) 0 (l .classes)) 1 (l .kept)) 2 (l .cache)) 3 (l .ties)) 4 (l .subtypes)) loadsCell n))
     (t .classes) (t .kept) (t .cache) (t .ties) (t .subtypes) (t .objects) (t .frames)))
 taken-written t h n e =
     let l : Level = levelAt (t .counts) n in
@@ -358,18 +366,36 @@ taken-written t h n e =
     taken-done t h l (stack (levelAt (t .counts)) n) here ∙ ap (done Accepted) (back-written t h n l (b .0 .0))
 
 left-alone : (t : Tables) → BackLeaves t t
-left-alone t = record { counts = λ j l e. refl; classes = refl; kept = refl; cache = refl; ties = refl; subtypes = refl; objects = refl; frames = refl }
+left-alone t = record { counts = λ j l g e. refl; groups = λ j l. refl; classes = refl; kept = refl; cache = refl; ties = refl; subtypes = refl; objects = refl; frames = refl }
 
 pub taken-tables : (t : Tables) → broken t ≡ false → BackLeaves t (perform callTakeBack t .tables)
 taken-tables t h = go (countAt t loadsCell) refl
   where
+    back : Level → ℕ → List ℕ
+    back l n = set (set (set (set (set (set (t .counts) 0 (l .classes)) 1 (l .kept)) 2 (l .cache)) 3 (l .ties)) 4 (l .subtypes)) loadsCell n
+
+    three-set : (l : Level) → length (set (set (set (t .counts) 0 (l .classes)) 1 (l .kept)) 2 (l .cache)) ≡ length (t .counts)
+    three-set l = simp length-set
+
+    ties-left : (l : Level) (n : ℕ) → getD (back l n) countTies 0 ≡ l .ties
+    ties-left l n =
+        let c3 : List ℕ = set (set (set (t .counts) 0 (l .classes)) 1 (l .kept)) 2 (l .cache) in
+        let c4 : List ℕ = set c3 3 (l .ties) in
+        let c5 : List ℕ = set c4 4 (l .subtypes) in
+        getD-set-other c5 loadsCell 3 n 0 (λ e. omega arith)
+        ∙ (getD-set-other c4 4 3 (l .subtypes) 0 (λ e. omega arith) ∙ getD-set-same c3 3 (l .ties) 0 (omega (arith, broken-false t h .0 .counts, three-set l)))
+
     go : (n : ℕ) → countAt t loadsCell ≡ n → BackLeaves t (perform callTakeBack t .tables)
     go zero e = subst (BackLeaves t) (sym (ap (λ (d : Done Reply). d .tables) (taken-late t h (trace-read t 0 e ∙ (unfold stack in refl))))) (left-alone t)
     go (suc n) e =
         let l : Level = levelAt (t .counts) n in
+        let ts : List Tie = rows (tieAt (t .ties)) (l .ties) 0 in
+        let ns : List ℕ = rows (numberAt tieNumbersCell (t .counts)) (l .ties) 0 in
         subst (BackLeaves t) (sym (ap (λ (d : Done Reply). d .tables) (taken-written t h n e)))
         (record {
-          counts = λ j g z. five-counts (t .counts) l n j g z;
+          counts = λ j g m z. putGroups-before ts ns (back l n) j m ∙ five-counts (t .counts) l n j g z;
+          groups = λ j m.
+              putGroups-behind ts ns (back l n) j (omega (arith, rows-length (tieAt (t .ties)) (l .ties) 0, putGroups-before ts ns (back l n) countTies (omega arith) ∙ ties-left l n, m)) ∙ five-counts (t .counts) l n j (omega arith) (λ e. omega arith);
           classes = refl;
           kept = refl;
           cache = refl;

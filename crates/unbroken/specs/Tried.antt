@@ -38,7 +38,7 @@ use Rattle.layout.specs.Whole.{Whole}
 use Rattle.layout.specs.View.{put-view}
 use Rattle.layout.specs.Places.{rows-written, writeRows-length}
 use Rattle.layout.specs.Rows.{Anything, all-anything}
-use Rattle.layout.specs.Unbroken.{broken-false}
+use Rattle.layout.specs.Unbroken.{unbroken, broken-false}
 use Rattle.layout.specs.InTurn.{RisesFrom, InWords, in-turn-words, numbering-on}
 use Rattle.unbroken.specs.Refusing.{first-skip, first-other}
 use Rattle.unbroken.specs.First.{zero-number, first-applies}
@@ -199,7 +199,7 @@ try-answer c out t = by-broken t
 pub try-changes-none : (c : Load) (n : ℕ) (t : Tables) → perform (callTry c n) t .tables ≡ t
 unfolding perform
 try-changes-none c n t = wrapped Denied (tryRows c n) t (λ _ s. s ≡ t) (λ _. refl) (λ _ _. refl)
-    (λ _ g e. ap (λ (s : Rows). put s t) (ok-at (λ (g : Given Reply). g .rows ≡ view t) _ (try-leaves (λ s. s ≡ view t) c n (view t) refl) g e) ∙ put-view t)
+    (λ b g e. ap (λ (s : Rows). put s t) (ok-at (λ (g : Given Reply). g .rows ≡ view t) _ (try-leaves (λ s. s ≡ view t) c n (view t) refl) g e) ∙ put-view t (unbroken t b .groups))
 
 -- of a list's length only that counts, whether it is too short
 try-serves : (c : Load) (m n : ℕ) (t : Tables) → ltb m listLimit ≡ ltb n listLimit → perform (callTry c m) t .answer ≡ perform (callTry c n) t .answer

@@ -1,21 +1,24 @@
 -- Rows whose numbers have their widths: rows that are read off tables of right widths are such rows, and whole rows that are such rows, put into
 -- tables of right widths, leave tables of right widths. What a whole store bounds anyhow (class, object and loader numbers, kinds, places of files,
 -- counts) isn't asked again.
-use mathlib.Core.Path.{_≡_}
-use mathlib.Core.Option.{some}
-use mathlib.Core.List.{List, [], _∷_}
+use mathlib.Core.Path.{_≡_, refl}
+use mathlib.Core.Option.{Option, none, some}
+use mathlib.Core.List.{List, [], _∷_, map}
 use Prim.Native.Nat.{ℕ, suc, zero, _+_, _*_, _<_, _≤_}
 use native.Mathlib.Omega.{arith}
 use lib.ListN.{length, getD, set}
 use borrow.Author.Tests.{leb-true}
-use Rattle.definition.specs.Numbers.{tieNumbersCell, subtypeNumbersCell, loadsCell, traceCell, levelCells}
+use Rattle.definition.specs.Numbers.{tieNumbersCell, subtypeNumbersCell, loadsCell, traceCell, levelCells, groupsCell}
 use Rattle.definition.specs.Lists.{writeRows, writeStack}
+use Rattle.definition.specs.Requests.{Request, at}
 use Rattle.definition.specs.Classes.{Base, Entry}
 use Rattle.definition.specs.Constraints.{Tie, Subtype}
+use Rattle.definition.specs.Groups.{groupOf, cellOf, groupsOf}
 use Rattle.definition.specs.Machine.{Value, emptyValue, intValue, nullValue, objectValue, unlistedValue, Object, Frame, ObjectRow, free, owned, Exists}
 use Rattle.definition.specs.File.{File}
-use Rattle.definition.specs.Tables.{Tables, ClassRow, Level, Rows, cutTo, putLevel, putTrace, fileAt, worldOf, putThree, putClassRow, entryAt, putEntry, tieAt, putTie, subtypeAt, putSubtype, valueOf, kindOf, bitsOf, valueAt, putValue, fieldAt, putField, usedFields, objectAt, putObject, localAt, putLocal, operandAt, putOperand, frameOf, frameAt, putFrame, frameBase, frameIn, putFrameIn, viewBase, objectsOf, framesOf, viewOver, view, countsOf, put, ownedBy, ownerOf, ownerAt, putOwner, objectRowAt, putObjectRow, putNumber, putNumbers}
+use Rattle.definition.specs.Tables.{Tables, ClassRow, Level, Rows, cutTo, putLevel, putTrace, fileAt, worldOf, putThree, putClassRow, entryAt, putEntry, tieAt, putTie, subtypeAt, putSubtype, valueOf, kindOf, bitsOf, valueAt, putValue, fieldAt, putField, usedFields, objectAt, putObject, localAt, putLocal, operandAt, putOperand, frameOf, frameAt, putFrame, frameBase, frameIn, putFrameIn, viewBase, objectsOf, framesOf, viewOver, view, countsOf, put, ownedBy, ownerOf, ownerAt, putOwner, objectRowAt, putObjectRow, putNumber, putNumbers, putGroups}
 use Rattle.definition.specs.Widths.{EachBelow, Widths}
+use Rattle.laws.specs.Groups.{group-lowest}
 use Rattle.laws.specs.Options.{bind-some, need-true}
 use Rattle.layout.specs.Tests.{All, all-more}
 use Rattle.layout.specs.Places.{rows-all, stack-all}
@@ -24,6 +27,7 @@ use Rattle.layout.specs.InTurn.{numbers-below}
 use Rattle.laws.specs.Objects.{exists-lt}
 use Rattle.layout.specs.Traced.{EachTurn, Leaves, Traced}
 use Rattle.unbroken.specs.Cut.{fewer}
+use Rattle.unbroken.specs.Steps.{all-nth}
 use Rattle.layout.specs.Whole.{Local, ValueSound, RowSound, Framed, Listed, Between, ClassSound, Classes, Whole}
 use Rattle.widths.specs.Below.{all-zip, from-all, below-cell, below-set, below-read, each-all, below-rows, below-stack}
 
@@ -384,16 +388,38 @@ module _ (r : Rows) (s : Whole r) (f : RowsFit r) where
       below-stack 65536 putLevel LevelFits below-level (r .trace) (set c loadsCell (length (r .trace))) (levels-fit (r .trace) r short b)
       (below-set 65536 c loadsCell (length (r .trace)) h (omega (arith, m .trace)))
 
+  -- a group's number is that of a tie
+  groups-cells : All (λ g. g < 65536) (groupsOf (r .ties) (r .numbers .ties))
+  unfolding groupsOf cellOf
+  groups-cells = each (r .ties)
+    where
+      small : (o : Option ℕ) (a : Request) → groupOf (r .ties) (r .numbers .ties) a ≡ o → cellOf o < 65536
+      small none a e = omega arith
+      small (some g) a e =
+          let x = group-lowest (r .ties) (r .numbers .ties) a g e .row in
+          let b = numbers-below (length (r .ties)) (length (r .subtypes)) (r .numbers) (s .numbers) .0 in
+          let l : g < length (r .ties) + length (r .subtypes) = all-nth (λ i. i < length (r .ties) + length (r .subtypes)) (r .numbers .ties) b (x .row) g (x .number) in
+          omega (arith, l, s .limits .ties, s .limits .subtypes)
+
+      each : (us : List Tie) → All (λ g. g < 65536) (map (λ t. cellOf (groupOf (r .ties) (r .numbers .ties) (at (t .one) (t .name)))) us)
+      each [] = tt
+      each (u ∷ us) = (small (groupOf (r .ties) (r .numbers .ties) (at (u .one) (u .name))) (at (u .one) (u .name)) refl, each us)
+
+  grouped-below : (c : List ℕ) → EachBelow 65536 c → EachBelow 65536 (putGroups (r .ties) (r .numbers .ties) c)
+  unfolding putGroups putNumber
+  grouped-below c h = below-rows 65536 (putNumber groupsCell) (λ g. g < 65536) (λ u i x l k. below-set 65536 u (groupsCell + i) x k l) (groupsOf (r .ties) (r .numbers .ties)) 0 c groups-cells h
+
   pub put-widths : Traced r → (t : Tables) → Widths t → Widths (put r t)
   unfolding put putClassRow putEntry putTie putSubtype
   put-widths b t w =
       let quoted : EachBelow 4294967296 (writeStack (putFrameIn 0) (r .quote) (t .frames)) =
       below-stack 4294967296 (putFrameIn 0) FrameCells (below-frame 0) (r .quote) (t .frames) (frames-cells (r .quote) (s .quote) (f .quote)) (w .frames) in
       record {
-        counts = traced-below b (putNumbers (r .numbers) (writeRows putOwner (r .objects) 0 (writeRows set (countsOf r) 0 (t .counts))))
+        counts = grouped-below (putTrace (r .trace) (putNumbers (r .numbers) (writeRows putOwner (r .objects) 0 (writeRows set (countsOf r) 0 (t .counts)))))
+            (traced-below b (putNumbers (r .numbers) (writeRows putOwner (r .objects) 0 (writeRows set (countsOf r) 0 (t .counts))))
             (numbered-below (writeRows putOwner (r .objects) 0 (writeRows set (countsOf r) 0 (t .counts)))
             (below-rows 65536 putOwner OwnerFits below-owner (r .objects) 0 (writeRows set (countsOf r) 0 (t .counts)) owners-cells
-            (below-rows 65536 set (λ c. c < 65536) (λ u i c l h. below-set 65536 u i c h l) (countsOf r) 0 (t .counts) counts-cells (w .counts))));
+            (below-rows 65536 set (λ c. c < 65536) (λ u i c l h. below-set 65536 u i c h l) (countsOf r) 0 (t .counts) counts-cells (w .counts)))));
         classes = below-threes 65536 (λ k. k .loader) (λ k. k .start) (λ k. k .size) (r .classes) (t .classes)
             (class-rows-fit (worldOf r .base) (r .kept) (r .classes) (s .limits .kept) (s .classes)) (w .classes);
         kept = below-rows 256 set (λ c. c < 256) (λ u i c l h. below-set 256 u i c h l) (r .kept) 0 (t .kept) (each-all 256 (r .kept) (f .kept)) (w .kept);

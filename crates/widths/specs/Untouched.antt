@@ -10,10 +10,12 @@ use lib.Seq.{getD-set-other}
 use lib.Dec.{leb, ltb}
 use borrow.Author.Tests.{leb-true, leb-false, ltb-true, ltb-false}
 use mathlib.Core.Bool.{Bool, true, false}
-use Rattle.definition.specs.Numbers.{ownersCell, tieNumbersCell, subtypeNumbersCell, loadsCell, traceCell, levelCells, fieldLimit, frameLimit, operandLimit, localCount, rowCells, valueCells, objectCells, fieldsCell, frameCells, methodCell, pointCell, depthCell, localsCell, operandsCell}
+use Rattle.definition.specs.Numbers.{ownersCell, tieNumbersCell, subtypeNumbersCell, loadsCell, traceCell, levelCells, groupsCell, fieldLimit, frameLimit, operandLimit, localCount, rowCells, valueCells, objectCells, fieldsCell, frameCells, methodCell, pointCell, depthCell, localsCell, operandsCell}
 use Rattle.definition.specs.Lists.{writeRows, writeStack}
+use Rattle.definition.specs.Constraints.{Tie}
+use Rattle.definition.specs.Groups.{groupsOf}
 use Rattle.definition.specs.Machine.{Object, ObjectRow, free, owned, Objects, existing, Exists, Frame}
-use Rattle.definition.specs.Tables.{Tables, RowNumbers, Level, Rows, worldOf, putThree, putClassRow, putEntry, putTie, putSubtype, putField, putObject, ownerOf, putOwner, putObjectRow, putLocal, putOperand, putFrame, frameBase, putFrameIn, countsOf, putNumber, putNumbers, putTrace, put}
+use Rattle.definition.specs.Tables.{Tables, RowNumbers, Level, Rows, worldOf, putThree, putClassRow, putEntry, putTie, putSubtype, putField, putObject, ownerOf, putOwner, putObjectRow, putLocal, putOperand, putFrame, frameBase, putFrameIn, countsOf, putNumber, putNumbers, putTrace, putGroups, put}
 use Rattle.laws.specs.Growth.{nth-lt}
 use Rattle.laws.specs.Objects.{existing-owned, exists-lt}
 use Rattle.layout.specs.Tests.{All, all-more}
@@ -23,6 +25,7 @@ use Rattle.layout.specs.Values.{putValue-cell}
 use Rattle.layout.specs.OwnedRows.{putOwner-length, putObjectRow-length}
 use Rattle.layout.specs.NumberedRows.{putNumbers-length}
 use Rattle.layout.specs.TracedRows.{putTrace-length, putTrace-before, putTrace-behind}
+use Rattle.layout.specs.GroupedRows.{groups-length, putGroups-length}
 use Rattle.layout.specs.FrameRows.{putFrame-length}
 use Rattle.layout.specs.Whole.{Framed, Whole}
 use Rattle.layout.specs.ReadBack.{size-small}
@@ -64,11 +67,12 @@ pub record SameLengths (t u : Tables) : Type 0 where
   pub frames : length (u .frames) ≡ length (t .frames)
 
 -- rows r put into the tables t change no length, and no cell but the eight counts, the owners of so many rows of objects, the numbers of so many ties and subtype
--- constraints, the count of loads that can be taken back and their levels, the cells of so many other rows, and the cells that an object or a frame holds
+-- constraints, the count of loads that can be taken back and their levels, the groups of so many ties, the cells of so many other rows, and the cells that an
+-- object or a frame holds
 pub record Leaves (r : Rows) (t : Tables) : Type 0 where
   pub lengths : SameLengths t (put r t)
   pub counts : (j : ℕ) → ownersCell + length (r .objects) ≤ j → (Among tieNumbersCell (length (r .numbers .ties)) j → ⊥) → (Among subtypeNumbersCell (length (r .numbers .subtypes)) j → ⊥)
-      → (Among loadsCell (1 + length (r .trace) * levelCells) j → ⊥)
+      → (Among loadsCell (1 + length (r .trace) * levelCells) j → ⊥) → (Among groupsCell (length (r .ties)) j → ⊥)
       → getD (put r t .counts) j 0 ≡ getD (t .counts) j 0
   pub classes : (j : ℕ) → length (r .classes) * rowCells ≤ j → getD (put r t .classes) j 0 ≡ getD (t .classes) j 0
   pub kept : (j : ℕ) → length (r .kept) ≤ j → getD (put r t .kept) j 0 ≡ getD (t .kept) j 0
@@ -148,6 +152,12 @@ unfolding putNumbers
 numbers-spare ns j a b t =
     section-spare tieNumbersCell (ns .ties) j a (writeRows (putNumber subtypeNumbersCell) (ns .subtypes) 0 t) ∙ section-spare subtypeNumbersCell (ns .subtypes) j b t
 
+-- groups
+
+groups-spare : (ts : List Tie) (ns : List ℕ) (j : ℕ) → (Among groupsCell (length ts) j → ⊥) → (t : List ℕ) → getD (putGroups ts ns t) j 0 ≡ getD t j 0
+unfolding putGroups
+groups-spare ts ns j h t = section-spare groupsCell (groupsOf ts ns) j (λ a. h (record { from = a .from; to = omega (arith, a .to, groups-length ts ns) })) t
+
 -- the trace
 
 trace-spare : (ls : List Level) (j : ℕ) → (Among loadsCell (1 + length ls * levelCells) j → ⊥) → (t : List ℕ) → getD (putTrace ls t) j 0 ≡ getD t j 0
@@ -194,10 +204,11 @@ unfolding put countsOf putClassRow putEntry putTie putSubtype putFrameIn
 untouched r t = record {
   lengths = record {
     counts =
-        putTrace-length (r .trace) (putNumbers (r .numbers) (writeRows putOwner (r .objects) 0 (writeRows set (countsOf r) 0 (t .counts))))
+        putGroups-length (r .ties) (r .numbers .ties) (putTrace (r .trace) (putNumbers (r .numbers) (writeRows putOwner (r .objects) 0 (writeRows set (countsOf r) 0 (t .counts)))))
+        ∙ (putTrace-length (r .trace) (putNumbers (r .numbers) (writeRows putOwner (r .objects) 0 (writeRows set (countsOf r) 0 (t .counts))))
         ∙ (putNumbers-length (r .numbers) (writeRows putOwner (r .objects) 0 (writeRows set (countsOf r) 0 (t .counts)))
         ∙ (writeRows-length putOwner putOwner-length (r .objects) 0 (writeRows set (countsOf r) 0 (t .counts))
-        ∙ writeRows-length set length-set (countsOf r) 0 (t .counts)));
+        ∙ writeRows-length set length-set (countsOf r) 0 (t .counts))));
     classes = writeRows-length putClassRow (class-rows .long) (r .classes) 0 (t .classes);
     kept = writeRows-length set length-set (r .kept) 0 (t .kept);
     cache = writeRows-length putEntry (entry-rows .long) (r .cache) 0 (t .cache);
@@ -208,10 +219,11 @@ untouched r t = record {
         writeStack-length (putFrameIn 1) (λ s i f. putFrame-length s (frameBase 1 i) f) (r .report) (writeStack (putFrameIn 0) (r .quote) (t .frames))
         ∙ writeStack-length (putFrameIn 0) (λ s i f. putFrame-length s (frameBase 0 i) f) (r .quote) (t .frames);
   };
-  counts = λ j l a b c.
-      trace-spare (r .trace) j c (putNumbers (r .numbers) (writeRows putOwner (r .objects) 0 (writeRows set (countsOf r) 0 (t .counts))))
+  counts = λ j l a b c d.
+      groups-spare (r .ties) (r .numbers .ties) j d (putTrace (r .trace) (putNumbers (r .numbers) (writeRows putOwner (r .objects) 0 (writeRows set (countsOf r) 0 (t .counts)))))
+      ∙ (trace-spare (r .trace) j c (putNumbers (r .numbers) (writeRows putOwner (r .objects) 0 (writeRows set (countsOf r) 0 (t .counts))))
       ∙ (numbers-spare (r .numbers) j a b (writeRows putOwner (r .objects) 0 (writeRows set (countsOf r) 0 (t .counts)))
-      ∙ (owners-spare (r .objects) j (writeRows set (countsOf r) 0 (t .counts)) l ∙ cells-spare (countsOf r) j (t .counts) (omega arith)));
+      ∙ (owners-spare (r .objects) j (writeRows set (countsOf r) 0 (t .counts)) l ∙ cells-spare (countsOf r) j (t .counts) (omega arith))));
   classes = λ j l. threes-spare (λ k. k .loader) (λ k. k .start) (λ k. k .size) (r .classes) j (t .classes) l;
   kept = λ j l. cells-spare (r .kept) j (t .kept) l;
   cache = λ j l. threes-spare (λ e. e .request .loader) (λ e. e .request .name) (λ e. e .class) (r .cache) j (t .cache) l;
