@@ -2,6 +2,6 @@
 pub mod Filling
 pub mod Rooting
 pub mod Claiming
-pub mod Rows
 pub mod Tying
 pub mod Answering
+pub mod Numbering

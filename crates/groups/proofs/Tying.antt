@@ -19,7 +19,8 @@ use Rattle.groups.specs.Joining.{First, NodesOf, nameIn}
 use Rattle.groups.specs.Roots.{Root, SameRoot}
 use Rattle.groups.specs.Claims.{keyIn, Loaders, Naming, Claim, Claimed}
 use Rattle.groups.specs.Lowest.{upTo, cellsOf, tiesAt, RowTied}
-use Rattle.groups.specs.Laws.{rows-count, row-there, there-row}
+use Rattle.groups.specs.Laws.{there-row}
+use Rattle.layout.specs.Places.{rows-length, rows-there}
 use Rattle.groups.proofs.Filling.{first-unique}
 use Rattle.groups.proofs.Claiming.{Also, claimed-as, claimed-more, few-firsts}
 use Rattle.groups.proofs.Rooting.{root-low, root-one, root-along, same-on, turn-same}
@@ -169,7 +170,7 @@ module _ (ties nodes : List ℕ) (n : ℕ) (isNode : NodesOf (nameIn ties) n nod
         same-on (chain-same i (r .row) h l c (r .from)) (meet (r .row) j y l k (r .to) q)
 
     pub roots-groups : (roots : List ℕ) → ((p : ℕ) → p < n → Root ups p (getD roots p 0)) → cellsOf roots n ≡ groupsOf (tiesAt ties n) (upTo n)
-    roots-groups roots root = groups-are (tiesAt ties n) (upTo n) (cellsOf roots n) (rows-count _ n 0 ∙ sym (rows-count _ n 0)) each
+    roots-groups roots root = groups-are (tiesAt ties n) (upTo n) (cellsOf roots n) (rows-length _ n 0 ∙ sym (rows-length _ n 0)) each
       where
         group : (i : ℕ) → i < n → GroupNumber (tiesAt ties n) (upTo n) (oneOf (theTie i)) (getD roots i 0)
         group i h =
@@ -177,7 +178,7 @@ module _ (ties nodes : List ℕ) (n : ℕ) (isNode : NodesOf (nameIn ties) n nod
             let l : getD roots i 0 < n = omega (arith, root-low r) in
             record {
               tie = theTie (getD roots i 0);
-              row = record { row = getD roots i 0; tie = row-there (tieAt ties) n (getD roots i 0) l; number = row-there (λ i. i) n (getD roots i 0) l };
+              row = record { row = getD roots i 0; tie = rows-there (tieAt ties) n (getD roots i 0) l; number = rows-there (λ i. i) n (getD roots i 0) l };
               chain = root-along (RowTied ties n) n tied-self tied-on (λ p g d. s .sound p (omega arith) d) h r;
               least = λ u m k p q c.
                   let t = there-row (tieAt ties) n k u p in

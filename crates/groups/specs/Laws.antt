@@ -4,39 +4,28 @@ use mathlib.Core.Option.{Option, none, some, Option·some-injective, Option·non
 use mathlib.Core.List.{List, [], _∷_, map}
 use Prim.Native.Nat.{ℕ, zero, suc, _+_, _<_, _≤_}
 use native.Mathlib.Omega.{arith}
-use lib.ListN.{length, getD, getElem?}
+use lib.ListN.{length, getElem?}
 use Rattle.definition.specs.Lists.{rows}
 use Rattle.definition.specs.Constraints.{Tie}
+use Rattle.definition.specs.Numbers.{tieNumbersCell}
+use Rattle.definition.specs.Tables.{tieAt, numberAt}
 use Rattle.definition.specs.Groups.{groupsOf}
-use Rattle.laws.specs.Groups.{oneOf, GroupNumber, groups-are, groups-length, group-at}
-use Rattle.groups.specs.Lowest.{upTo}
+use Rattle.laws.specs.Groups.{oneOf, GroupNumber, groups-are, group-at}
+use Rattle.layout.specs.Places.{rows-length, rows-there}
+use Rattle.layout.specs.GroupedRows.{groups-length}
+use Rattle.groups.specs.Lowest.{upTo, tiesAt}
 
--- Rows, one by one
+-- What stands in row j
 
 module _ {A : Type 0} (g : ℕ → A) where
-  pub rows-count : (k i : ℕ) → length (rows g k i) ≡ k
-  unfolding rows
-  rows-count zero i = refl
-  rows-count (suc k) i = ap suc (rows-count k (suc i))
-
-  rows-at : (k i j : ℕ) → j < k → getElem? (rows g k i) j ≡ some (g (i + j))
-  unfolding rows
-  rows-at zero i j l = absurd (omega arith)
-  rows-at (suc k) i zero l = let e : i + 0 ≡ i = omega arith in rw e refl
-  rows-at (suc k) i (suc j) l = let e : i + suc j ≡ suc i + j = omega arith in rw e (rows-at k (suc i) j (omega arith))
-
-  pub row-there : (k j : ℕ) → j < k → getElem? (rows g k 0) j ≡ some (g j)
-  row-there k j l = let e : 0 + j ≡ j = omega arith in rw e at (rows-at k 0 j l)
-
   there-low : (k i j : ℕ) (x : A) → getElem? (rows g k i) j ≡ some x → j < k
   unfolding rows
   there-low zero i j x e = absurd (Option·none-ne-some x e)
   there-low (suc k) i zero x e = omega arith
   there-low (suc k) i (suc j) x e = omega (arith, there-low k (suc i) j x e)
 
-  -- what stands in row j
   pub there-row : (k j : ℕ) (x : A) → getElem? (rows g k 0) j ≡ some x → (j < k) × (x ≡ g j)
-  there-row k j x e = let l = there-low k 0 j x e in (l, Option·some-injective x (g j) (sym e ∙ row-there k j l))
+  there-row k j x e = let l = there-low k 0 j x e in (l, Option·some-injective x (g j) (sym e ∙ rows-there g k j l))
 
 -- Numbers that rise
 
@@ -49,42 +38,45 @@ map-at f [] i x e = absurd (Option·none-ne-some x e)
 map-at f (y ∷ xs) zero x e = ap (λ z. some (f z)) (Option·some-injective y x e)
 map-at f (y ∷ xs) (suc i) x e = map-at f xs i x e
 
-cell-there : (ns : List ℕ) (i : ℕ) → i < length ns → getElem? ns i ≡ some (getD ns i 0)
-cell-there [] i h = absurd (omega arith)
-cell-there (n ∷ ns) zero h = refl
-cell-there (n ∷ ns) (suc i) h = cell-there ns i (omega arith)
-
 below : {A : Type 0} (xs : List A) (i : ℕ) (x : A) → getElem? xs i ≡ some x → i < length xs
 below [] i x e = absurd (Option·none-ne-some x e)
 below (y ∷ xs) zero x e = omega arith
 below (y ∷ xs) (suc i) x e = omega (arith, below xs i x e)
 
-abbrev pub Rising : List ℕ → Type 0
-Rising ns = (i j : ℕ) → i ≤ j → j < length ns → getD ns i 0 ≤ getD ns j 0
+-- the numbers of n rows rise with them
+abbrev pub Rising : (ℕ → ℕ) → ℕ → Type 0
+Rising f n = (i j : ℕ) → i ≤ j → j < n → f i ≤ f j
 
-pub groups-numbered : (ts : List Tie) (ns : List ℕ) → length ns ≡ length ts → Rising ns → map (λ r. getD ns r 0) (groupsOf ts (upTo (length ts))) ≡ groupsOf ts ns
-groups-numbered ts ns long rising = groups-are ts ns _ (map-length {A = ℕ} {B = ℕ} (λ r. getD ns r 0) (groupsOf ts (upTo (length ts))) ∙ groups-length ts (upTo (length ts))) each
+pub groups-numbered : (ts : List Tie) (f : ℕ → ℕ) (n : ℕ) → length ts ≡ n → Rising f n → map f (groupsOf ts (upTo n)) ≡ groupsOf ts (rows f n 0)
+groups-numbered ts f n long rising = groups-are ts (rows f n 0) _ (map-length f (groupsOf ts (upTo n)) ∙ groups-length ts (upTo n)) each
   where
-    us : List ℕ
-    us = upTo (length ts)
-
-    usLong : length us ≡ length ts
-    usLong = rows-count (λ i. i) (length ts) 0
-
-    each : (i : ℕ) (t : Tie) (g : ℕ) → getElem? ts i ≡ some t → getElem? (map (λ r. getD ns r 0) (groupsOf ts us)) i ≡ some g → GroupNumber ts ns (oneOf t) g
+    each : (i : ℕ) (t : Tie) (g : ℕ) → getElem? ts i ≡ some t → getElem? (map f (groupsOf ts (upTo n))) i ≡ some g → GroupNumber ts (rows f n 0) (oneOf t) g
     each i t g x y =
-        let f = group-at ts us usLong i t x in
-        let r = f .0 in
-        let G = f .2 in
-        let e : getD ns r 0 ≡ g = Option·some-injective _ g (sym (map-at (λ r. getD ns r 0) (groupsOf ts us) i r (f .1)) ∙ y) in
-        let z : r ≡ G .row .row = there-row (λ i. i) (length ts) (G .row .row) r (G .row .number) .1 in
-        let l : r < length ns = omega (arith, long, z, below ts (G .row .row) (G .tie) (G .row .tie)) in
-        subst (λ (k : ℕ). GroupNumber ts ns (oneOf t) k) e (record {
+        let w = group-at ts (upTo n) (rows-length (λ i. i) n 0 ∙ sym long) i t x in
+        let r = w .0 in
+        let G = w .2 in
+        let e : f r ≡ g = Option·some-injective _ g (sym (map-at f (groupsOf ts (upTo n)) i r (w .1)) ∙ y) in
+        let z = there-row (λ i. i) n (G .row .row) r (G .row .number) in
+        let l : r < n = omega (arith, z .0, z .1) in
+        subst (λ (k : ℕ). GroupNumber ts (rows f n 0) (oneOf t) k) e (record {
           tie = G .tie;
-          row = record { row = r; tie = subst (λ (k : ℕ). getElem? ts k ≡ some (G .tie)) (sym z) (G .row .tie); number = cell-there ns r l };
+          row = record { row = r; tie = subst (λ (k : ℕ). getElem? ts k ≡ some (G .tie)) (sym (z .1)) (G .row .tie); number = rows-there f n r l };
           chain = G .chain;
-          least = λ u n k p q c.
-              let h = below ts k u p in
-              let w : getD ns k 0 ≡ n = Option·some-injective _ n (sym (cell-there ns k (omega (arith, long, h))) ∙ q) in
-              omega (arith, w, rising r k (G .least u k k p (row-there (λ i. i) (length ts) k h) c) (omega (arith, long, h)));
+          least = λ u m k p q c.
+              let h : k < n = omega (arith, long, below ts k u p) in
+              let v = there-row f n k m q in
+              omega (arith, v .1, rising r k (G .least u k k p (rows-there (λ i. i) n k h) c) h);
         })
+
+-- Groups as numbers of ties: what is tested and written
+
+-- groups by the numbers that stand in counts
+abbrev pub groupsBy : List ℕ → List ℕ → ℕ → List ℕ
+groupsBy counts ties n = map (numberAt tieNumbersCell counts) (groupsOf (tiesAt ties n) (upTo n))
+
+abbrev pub numbersIn : List ℕ → ℕ → List ℕ
+numbersIn counts n = rows (numberAt tieNumbersCell counts) n 0
+
+-- where they rise these are the definition's
+pub groups-by : (counts ties : List ℕ) (n : ℕ) → Rising (numberAt tieNumbersCell counts) n → groupsBy counts ties n ≡ groupsOf (tiesAt ties n) (numbersIn counts n)
+groups-by counts ties n rising = groups-numbered (tiesAt ties n) (numberAt tieNumbersCell counts) n (rows-length (tieAt ties) n 0) rising

@@ -4,3 +4,4 @@ pub mod Roots
 pub mod Claims
 pub mod Lowest
 pub mod Laws
+pub mod Numbered
