@@ -5,3 +5,4 @@ pub mod Claims
 pub mod Lowest
 pub mod Laws
 pub mod Numbered
+pub mod Grouped
