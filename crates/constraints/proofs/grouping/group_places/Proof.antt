@@ -1,21 +1,12 @@
--- Places are in one group exactly if they are tied.
-use Rattle.constraints.proofs.Rooting.{groups-of}
+-- Places have one group exactly if their nodes have one label.
+use mathlib.Core.Path.{_≡_, sym, _∙_}
+use native.Mathlib.Omega.{arith}
 use borrow.Author.Needs.{needs}
 use Rattle.constraints.proofs.grouping.group_places.Statement.{statement}
 use Rattle.constraints.proofs.grouping.group_places.Tie as tie
 
 returns : tie.Need-returns
-returns c =
-    groups-of _ _ _ _ (c .before .before .before .before .before .before .before .unite-ties .ensures) (c .before .before .list-groups .ensures)
+returns c = record { labels = ?; isLabel = ?; isGroup = ? }
 
 pub group-places-spec : {M : Type 1} → statement M
-group-places-spec =
-    tie.close
-    (tie.spec
-    (λ c κs. search needs)
-    (λ c. search needs)
-    (λ c. search needs)
-    (λ c κs. search needs)
-    (λ c. search needs)
-    (λ c. search needs)
-    returns)
+group-places-spec = ?
