@@ -14,6 +14,7 @@ pub mod compare;
 pub mod drive;
 pub mod file;
 pub mod gen;
+pub mod groups;
 pub mod hidden;
 pub mod host;
 pub mod load;

@@ -111,6 +111,7 @@ const FAULTS: [Fault; 44] = [
         let reply = call.apply(store);
         if let (Reply::Defined(_), Some(ties)) = (reply, ties) {
             store.counts[count::TIES] = ties;
+            store.regroup();
         }
         Some(reply)
     }),
