@@ -152,7 +152,7 @@ pub const FAULTS: [Listing; 45] = [
 ];
 
 /// The right call, and then something to the store, by the store before, the call and its reply.
-fn then(call: &Call, store: &mut Store, list: &mut [u16], change: impl Fn(&Store, &mut Store, &Call, Reply)) -> Option<Reply> {
+pub fn then(call: &Call, store: &mut Store, list: &mut [u16], change: impl Fn(&Store, &mut Store, &Call, Reply)) -> Option<Reply> {
     let before = store.clone();
     let reply = call.apply_listing(store, list);
     let is_read = *call == Call::Boot && reply == Reply::Accepted || lengths_fit(&before) && !broken(&before);
