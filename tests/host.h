@@ -10,7 +10,7 @@
 #include "desk.h"
 #include "tariff.h"
 
-_Static_assert(sizeof(struct tariff_store) == 70356, "a store's bytes, as published");
+_Static_assert(sizeof(struct tariff_store) == 70868, "a store's bytes, as published");
 
 static int checked = 0;
 static int wrong = 0;
@@ -36,6 +36,9 @@ enum { TIE_NUMBERS = 264, SUBTYPE_NUMBERS = 520 };
 
 /* Where the count of loads that can be taken back stands among them, and behind it their levels, of five cells each. */
 enum { LOADS = 776, TRACE = 777, LEVEL = 5, MOST_LOADS = 32 };
+
+/* Where the groups of ties stand among them. */
+enum { GROUPS = 937 };
 
 static const size_t width[] = {2, 2, 1, 2, 2, 2, 4, 4, 4, 2};
 static const size_t cells[] = {TARIFF_COUNTS, TARIFF_CLASSES, TARIFF_KEPT,   TARIFF_CACHE, TARIFF_TIES,
