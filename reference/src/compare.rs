@@ -283,7 +283,10 @@ impl Comparison {
             (open.clone(), large::usual_define()), (open.clone(), large::usual_record()), (open.clone(), Call::Step), (open, Call::TakeBack),
             (open_full.clone(), Call::Step), (open_full.clone(), Call::Sweep), (open_full, Call::TakeBack),
         ];
-        for (at, (store, call)) in calls.iter().chain(&reasons).chain(&swept).chain(&made).chain(&looping).chain(&long).chain(&taken).enumerate() {
+        let ((parted, joins), mut joined) = (large::joining(), large::joining().0);
+        joins.apply(&mut joined);
+        let grouped = [(parted, joins), (joined, Call::TakeBack), (large::joining_by_a_step(), Call::Step)];
+        for (at, (store, call)) in calls.iter().chain(&reasons).chain(&swept).chain(&made).chain(&looping).chain(&long).chain(&taken).chain(&grouped).enumerate() {
             self.call(store, call, CELLS, &format!("large store {at}"));
         }
     }
