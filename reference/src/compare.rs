@@ -41,7 +41,7 @@ const FILES: u64 = 40;
 const CLASHES: u64 = 12;
 
 /// What was compared so far.
-#[derive(Clone, Default)]
+#[derive(Clone)]
 pub struct Comparison {
     /// Calls of lists from a boot.
     pub booted: Tally,
@@ -56,6 +56,20 @@ pub struct Comparison {
     /// What the desk answered to so many files, by number.
     pub desk: [u64; 16],
     pub seeds: u64,
+}
+
+impl Default for Comparison {
+    fn default() -> Comparison {
+        Comparison {
+            booted: Tally::default(),
+            damaged: Tally::default(),
+            misshapen: [0; CALLS.len()],
+            shapes: [0; SHAPES.len()],
+            rebooted: 0,
+            desk: [0; 16],
+            seeds: 0,
+        }
+    }
 }
 
 /// The task whose turn it is, which a 'wanted' names; tables of a wrong length answer as if their cells were 0.
