@@ -110,7 +110,7 @@ pub fn damaged(seed: u64) -> Store {
     if rng.percent(4) {
         wrong_numbers(&mut rng, &mut store);
     }
-    if rng.percent(10) {
+    if rng.percent(12) {
         wrong_groups(&mut rng, &mut store);
     }
     store

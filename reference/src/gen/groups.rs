@@ -181,7 +181,8 @@ pub const WRONG: [(&str, fn(&mut Rng, &mut Store)); 10] = [
         }
     }),
     ("with ties that are gone", |rng, store| {
-        let left = rng.below(store.constraint_count()) as u16;
+        let all = store.constraint_count();
+        let left = rng.within(all.saturating_sub(4), all - 1) as u16;
         let rows = [store.tie_numbers(), store.subtype_numbers()].map(|numbers| numbers.iter().filter(|&&number| number < left).count() as u16);
         let mut level = store.level();
         (level[3], level[4]) = (rows[0], rows[1]);
@@ -199,15 +200,21 @@ pub const WRONG: [(&str, fn(&mut Rng, &mut Store)); 10] = [
     }),
 ];
 
-/// Ties that join each other, mostly, with subtype constraints between them.
-fn some_ties(rng: &mut Rng, store: &mut Store) {
+/// The way with ties that are gone, which often comes to nothing.
+const GONE: usize = 7;
+
+/// Ties of one name or two, first of pairs of loaders and then of loaders of any two pairs, which joins groups, with subtype constraints between them.
+pub fn some_ties(rng: &mut Rng, store: &mut Store) {
     let names: Vec<u16> = (0..rng.within(1, 2)).map(|_| rng.within(2, 40) as u16).collect();
-    for _ in 0..rng.within(2, 9) {
+    let pairs = rng.within(2, 4);
+    for turn in 0..pairs + rng.within(1, 4) {
         let name = rng.pick(&names);
         if rng.percent(30) && !store.is_full(count::SUBTYPES) {
             store.add_subtype([rng.below(6) as u16, name, name + 1]);
-        } else if !store.is_full(count::TIES) {
-            store.add_tie([rng.below(6) as u16, rng.below(6) as u16, name]);
+        }
+        let loaders = if turn < pairs { [2 * turn, 2 * turn + 1] } else { [rng.below(2 * pairs), rng.below(2 * pairs)] };
+        if !store.is_full(count::TIES) {
+            store.add_tie([loaders[0] as u16, loaders[1] as u16, name]);
         }
     }
 }
@@ -225,7 +232,8 @@ pub fn wrong_groups(rng: &mut Rng, store: &mut Store) {
         (behind..store.counts.len()).for_each(|at| store.counts[at] = rng.word());
     }
     if store.count(count::TIES) > 0 && rng.percent(85) {
-        WRONG[rng.below(WRONG.len())].1(rng, store);
+        let way = if rng.percent(20) { GONE } else { rng.below(WRONG.len()) };
+        WRONG[way].1(rng, store);
     }
 }
 
