@@ -4,7 +4,7 @@ use super::build::{Code, Draft};
 use super::cases::{self, MAIN};
 use super::chains::chains;
 use super::graphs::graphs;
-use super::joins::{joins, three_at_once};
+use super::joins::joins;
 use super::list::list;
 use super::listed;
 use super::rng::Rng;
@@ -100,7 +100,7 @@ fn no_call(rng: &mut Rng) -> [u32; ROW] {
 }
 
 /// A list of calls of every kind, a product, a quotient by 0, a hidden field, and a load that is accepted and one that clashes tried among them; from further boots, a
-/// load that is taken back, methods with 0 to 4 arguments, an inline count of 5, an override and a call that tie each argument, a load that joins three groups of ties and is taken back; then a row that has no call, then one that is not reached.
+/// load that is taken back, methods with 0 to 4 arguments, an inline count of 5, an override and a call that tie each argument; then a row that has no call, then one that is not reached.
 pub fn fixed() -> Vec<u8> {
     let mut trial = cases::across(&cases::caller(), true, false);
     trial.run(3);
@@ -141,7 +141,7 @@ pub fn fixed() -> Vec<u8> {
     let code = Code::listed().aload(0).call(18, 21, &[INT; 5], INT).ireturn();
     numbers.define(1, &Draft::listed(18).main(MAIN, &code));
     let types = [12, 13, 14, 15];
-    for trial in [numbers, listed::overriding(None), listed::calling(&types, 16, None), three_at_once()] {
+    for trial in [numbers, listed::overriding(None), listed::calling(&types, 16, None)] {
         calls.extend(trial.calls);
     }
     let mut encoded = Encoded::new(&calls, 2);
