@@ -1422,6 +1422,9 @@ static void joined_and_parted(void)
     defines("loader 0's own 12", define(0, 12, 2, 0, 0, 0, NULL), 7);
     refuses("two classes aren't joined", define(3, 18, 13, 0, 12, ZERO), TARIFF_CLASH);
     check("the groups stay", grouped(GROUPED(0, 2)));
+    take_many(2);
+    accepts("the second tie", take_back());
+    check("one group, and the cell behind it stays", grouped(GROUPED(0)) && count_at(GROUPS + 1) == 2);
 }
 
 /* No call but boot takes these groups, of the ties that there are. */
