@@ -1116,7 +1116,8 @@ static unsigned counted(const struct image *m, size_t cell)
     return value;
 }
 
-/* The latest load is taken back: of what it left, the first five counts and that of loads become those of that time, and no other cell. */
+/* The latest load is taken back: of what it left, the first five counts and that of loads become those of that time, and no other cell:
+   none of these loads joins groups that were there before. */
 static void takes_back(const char *what, const struct image *then)
 {
     accepts(what, take_back());
