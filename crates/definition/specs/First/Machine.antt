@@ -8,22 +8,22 @@ use mathlib.Core.List.{List, [], _∷_, _++_}
 use Prim.Native.Nat.{ℕ, suc, _+_, _-_, _%_}
 use lib.ListN.{length, getElem?, set}
 use lib.Dec.{leb, ltb}
 use Rattle.definition.specs.declared.Refusal.the-variants.{Word}
 use Rattle.definition.specs.declared.Operator.{Operator}
 use Rattle.definition.specs.declared.Operator.the-variants.{Add, Subtract, Multiply, Divide}
 use Rattle.definition.specs.declared.Instruction.{Instruction}
 use Rattle.definition.specs.declared.Instruction.the-variants.{AconstNull, Sipush, Load, Store, Pop, Dup, Arithmetic, Getfield, Putfield, Invokevirtual, New, Return, Branch}
 use Rattle.definition.specs.Numbers.{wordUnknown, wordAbsent, wordFull, wordNull, wordBusy, wordStuck, nameObject, loaderLimit, objectLimit, frameLimit, operandLimit, intRange}
 use Rattle.definition.specs.Lists.{indexOf}
 use Rattle.definition.specs.Requests.{at}
 use Rattle.definition.specs.Superclasses.{nearest, below}
 use Rattle.definition.specs.Classes.{Base, Class, find, superOf, loaderOf, slots, slotIs, hasField}
 use Rattle.definition.specs.Constraints.{World, newTie, post}
 use Rattle.definition.specs.Instructions.{Decoded}
 use Rattle.definition.specs.Machine.{Value, emptyValue, intValue, nullValue, objectValue, unlistedValue, Object, Frame, newObject, pop!, int!, ofKind!, kind!, room!, under!, Now, past}
-use Rattle.first.specs.Signatures.{firstArgument, firstSelected, firstStartSignature, firstSignatureTies}
-use Rattle.first.specs.Files.{firstDecode}
+use Rattle.definition.specs.First.Signatures.{firstArgument, firstSelected, firstStartSignature, firstSignatureTies}
+use Rattle.definition.specs.First.Files.{firstDecode}
 use Rattle.definition.specs.Answers.{wanted, Result, refused, ok, _>>=_, need, take?}
 
 -- an object exists from its making until its row is emptied
 unfoldable pub firstExisting : List Object → ℕ → Option Object
