@@ -12,3 +12,4 @@ pub mod Tried
 pub mod Versions
 pub mod Share
 pub mod TakenBack
+pub mod Levels
