@@ -353,7 +353,7 @@ same-broken u t h e = go (firstBroken u) refl (broken t) refl
     go true p false q = alike-broken u t (h .fronts) e (λ _ _. beside-unbroken t q)
 
 -- where the quote owns every row, none is the report's
-none-made : (b : Base) (n t : List ℕ) (k i : ℕ) → ((m : ℕ) → i ≤ m → m < i + k → ownerAt n m ≡ 1) → madeBy 1 (rows (objectRowAt b n t) k i) ≡ 0
+pub none-made : (b : Base) (n t : List ℕ) (k i : ℕ) → ((m : ℕ) → i ≤ m → m < i + k → ownerAt n m ≡ 1) → madeBy 1 (rows (objectRowAt b n t) k i) ≡ 0
 unfolding rows objectRowAt ownedBy madeBy
 none-made b n t zero i h = refl
 none-made b n t (suc k) i h = rw (h i (omega arith) (omega arith)) (none-made b n t k (suc i) (λ m a l. h m (omega arith) (omega arith)))

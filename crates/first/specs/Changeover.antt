@@ -8,17 +8,18 @@ use mathlib.Core.Logic.{_⊎_, inl, inr}
 use Prim.Native.Nat.{ℕ, zero, suc, _<_, _≤_}
 use native.Mathlib.Omega.{arith}
 use lib.ListN.{length, getD, take, replicate, length-replicate, getD-replicate, List·getD-append}
-use lib.Seq.{getD-append-add}
+use lib.Seq.{getD-append-add, take-append-seam}
 use lib.Dec.{eqb}
 use borrow.Author.Tests.{eqb-false, leb-true, not-false}
 use Rattle.definition.specs.declared.Reply.{Reply}
 use Rattle.definition.specs.declared.Reply.the-variants.{Accepted, Denied}
 use Rattle.definition.specs.declared.Refusal.the-variants.{Word}
-use Rattle.definition.specs.Numbers.{wordBroken, wordHidden, wordShare, wordLate, objectLimit, ownersCell, tieLimit, subtypeLimit, countTies, countSubtypes, loadsCell}
+use Rattle.definition.specs.Numbers.{wordBroken, wordHidden, wordShare, wordLate, objectLimit, ownersCell, tieLimit, subtypeLimit, countTies, countSubtypes, countObjects, loadsCell}
 use Rattle.definition.specs.Lists.{any, stack}
 use Rattle.definition.specs.Answers.{numberOf, endsIn}
 use Rattle.definition.specs.Groups.{groupsOf}
-use Rattle.definition.specs.Tables.{Tables, shaped, keptOf, classRowsOf, RowNumbers, rowNumbers, ownerAt, traceOf, view, viewOver}
+use Rattle.definition.specs.Machine.{madeBy}
+use Rattle.definition.specs.Tables.{Tables, shaped, keptOf, classRowsOf, RowNumbers, rowNumbers, ownerAt, viewBase, objectsOf, view, viewOver}
 use Rattle.definition.specs.Broken.{broken, groupsIn}
 use Rattle.definition.specs.Calls.{numbersFrom, RowCall, rowDefine, rowRecord, rowStart, rowDrop, rowSweep, rowTry, rowTakeBack, Call, callBoot, callRows, callStep, callRun, callTakeBack, Done, done, perform}
 use Rattle.definition.specs.Changeover.{withCounts, tiesFirst, groupsFirst, carry, changeover, firstRowCallOf, firstCallOf, bringsLater, involved, AnswersAsBefore}
@@ -27,11 +28,12 @@ use Rattle.definition.specs.First.Broken.{firstBroken, firstWithin, firstWhole}
 use Rattle.definition.specs.First.Calls.{FirstReply, FirstRowCall, firstRowDefine, firstRowRecord, firstRowStart, firstRowDrop, FirstCall, firstCallBoot, firstCallRows, firstCallStep, firstCallRun, firstPerform}
 use Rattle.layout.specs.Tests.{All, every-true}
 use Rattle.unbroken.specs.Groups.{groups-right}
+use Rattle.unbroken.specs.Share.{refused-share}
 use Rattle.unbroken.specs.TakenBack.{taken-late}
 use Rattle.unbroken.specs.Unbroken.{kept-unbroken}
 use Rattle.first.specs.SameBases.{laterRow}
 use Rattle.first.specs.SameRows.{SameRows, todayRow}
-use Rattle.first.specs.Carries.{Carries, EarlyTables, carrying, keepsLater, keeps-none, unbroken-keeps-none, eight-counts, tie-numbers, subtype-numbers, no-loads, same-broken, same-store}
+use Rattle.first.specs.Carries.{Carries, EarlyTables, carrying, keepsLater, keeps-none, unbroken-keeps-none, eight-counts, tie-numbers, subtype-numbers, no-loads, none-made, same-broken, same-store}
 use Rattle.first.specs.SameCalls.{Unhidden}
 use Rattle.first.specs.KeepsNone.{keeps-early}
 use Rattle.first.specs.Same.{today, CallBringsNone, Alike, Told, same-call}
@@ -66,8 +68,8 @@ broken-judged u = go (keepsLater u) refl (firstBroken u) refl
 -- What the changeover answers and leaves
 
 -- what it leaves where its test passes, and where it doesn't
-D : FirstTables → Tables → Bool → Done Reply
-D u t b = elim b as (λ _. Done Reply) [ true ↦ done Accepted (carry u) | false ↦ done (Denied (Word wordBroken)) t ]
+abbrev leaves : FirstTables → Tables → Bool → Done Reply
+leaves u t b = elim b as (λ _. Done Reply) [ true ↦ done Accepted (carry u) | false ↦ done (Denied (Word wordBroken)) t ]
 
 module _ (u : FirstTables) (t : Tables) where
   -- accepted: the new lengths are right, the old store isn't broken, and the new tables are filled, whatever they held
@@ -99,22 +101,22 @@ module _ (u : FirstTables) (t : Tables) where
   unfolding changeover
   changeover-filled = go (shaped t && not (firstBroken u)) refl
     where
-      go : (b : Bool) → (shaped t && not (firstBroken u)) ≡ b → D u t b .answer ≡ Accepted → Filled
-      go true e h = let r = both (shaped t) (firstBroken u) e in record { lengths = r .0; sound = r .1; left = unfold changeover in ap (λ (b : Bool). D u t b .tables) e }
+      go : (b : Bool) → (shaped t && not (firstBroken u)) ≡ b → leaves u t b .answer ≡ Accepted → Filled
+      go true e h = let r = both (shaped t) (firstBroken u) e in record { lengths = r .0; sound = r .1; left = unfold changeover in ap (λ (b : Bool). leaves u t b .tables) e }
       go false e h = absurd (apart h)
 
   -- the other way
   pub filled-changeover : shaped t ≡ true → firstBroken u ≡ false → changeover u t .answer ≡ Accepted
   unfolding changeover
-  filled-changeover s b = rw (s, b) refl
+  filled-changeover s b = λ i. leaves u t (s i && not (b i)) .answer
 
   pub changeover-refused : (changeover u t .answer ≡ Accepted → ⊥) → Refused
   unfolding changeover
   changeover-refused = go (shaped t && not (firstBroken u)) refl
     where
-      go : (b : Bool) → (shaped t && not (firstBroken u)) ≡ b → (D u t b .answer ≡ Accepted → ⊥) → Refused
+      go : (b : Bool) → (shaped t && not (firstBroken u)) ≡ b → (leaves u t b .answer ≡ Accepted → ⊥) → Refused
       go true e h = absurd (h refl)
-      go false e h = record { why = one (shaped t) (firstBroken u) e; answers = unfold changeover in ap (λ (b : Bool). D u t b .answer) e; left = unfold changeover in ap (λ (b : Bool). D u t b .tables) e }
+      go false e h = record { why = one (shaped t) (firstBroken u) e; answers = unfold changeover in ap (λ (b : Bool). leaves u t b .answer) e; left = unfold changeover in ap (λ (b : Bool). leaves u t b .tables) e }
 
   -- the other way: either is enough
   pub refused-changeover : (shaped t ≡ false) ⊎ (firstBroken u ≡ true) → Refused
@@ -130,18 +132,19 @@ quotes = replicate objectLimit 1
 all-quotes : length quotes ≡ objectLimit
 all-quotes = length-replicate {A = ℕ} objectLimit 1
 
--- an old store that isn't broken has eight counts, of ties and of subtype constraints at most 256
+-- an old store that isn't broken has eight counts, of ties, of subtype constraints and of objects at most 256
 record Within (u : FirstTables) : Type 0 where
   eight : length (u .counts) ≡ ownersCell
   few : getD (u .counts) countTies 0 ≤ tieLimit
   less : getD (u .counts) countSubtypes 0 ≤ subtypeLimit
+  room : getD (u .counts) countObjects 0 ≤ objectLimit
 
 unbroken-within : (u : FirstTables) → firstBroken u ≡ false → Within u
 unfolding firstBroken firstWhole firstWithin
 unbroken-within u h =
     let p = every-true _ (not-false _ h) in
     let w = every-true _ (p .1 .0) in
-    record { eight = eight-counts u (carry u) (carrying u .fronts) (p .0); few = leb-true _ _ (w .1 .1 .1 .0); less = leb-true _ _ (w .1 .1 .1 .1 .0) }
+    record { eight = eight-counts u (carry u) (carrying u .fronts) (p .0); few = leb-true _ _ (w .1 .1 .1 .0); less = leb-true _ _ (w .1 .1 .1 .1 .0); room = leb-true _ _ (w .1 .1 .1 .1 .1 .0) }
 
 count-carried : (u : FirstTables) → firstBroken u ≡ false → (j : ℕ) → j < ownersCell → getD (carry u .counts) j 0 ≡ getD (u .counts) j 0
 count-carried u h j l = List·getD-append (u .counts) (quotes ++ tiesFirst (getD (u .counts) countTies 0) (groupsFirst u)) 0 j (omega (arith, unbroken-within u h .eight))
@@ -168,9 +171,19 @@ carried-owners u h o l =
     (rw (w .eight) at (getD-append-add (u .counts) (quotes ++ g) o 0))
     ∙ (List·getD-append quotes g 0 o (omega (arith, all-quotes)) ∙ getD-replicate objectLimit o 1 0 l)
 
+-- so none is the report's, and no call on a carried store is told of its share
+pub carried-fresh : (u : FirstTables) → firstBroken u ≡ false → madeBy 1 (view (carry u) .objects) ≡ 0
+unfolding view viewOver objectsOf
+carried-fresh u h =
+    none-made (viewBase (carry u)) (carry u .counts) (u .objects) (getD (carry u .counts) countObjects 0) 0
+    (λ m _ l. carried-owners u h m (omega (arith, l, count-carried u h countObjects (omega arith), unbroken-within u h .room)))
+
+pub fresh-share : (u : FirstTables) → firstBroken u ≡ false → (c : Call) → numberOf (perform c (carry u) .answer) ≡ wordShare → ⊥
+fresh-share u h c s = omega (arith, refused-share c (carry u) s .1, carried-fresh u h)
+
 -- the trace is empty: no load can be taken back yet
 pub carried-trace : (u : FirstTables) → firstBroken u ≡ false → view (carry u) .trace ≡ []
-unfolding view viewOver traceOf stack
+unfolding view viewOver stack
 carried-trace u h =
     let w = unbroken-within u h in
     let n : ℕ = getD (u .counts) countTies 0 in
@@ -260,15 +273,11 @@ StoresAsBefore [] u t = frontOf t ≡ u
 StoresAsBefore (c ∷ cs) u t = (frontOf t ≡ u) × ((b : FirstCall) → firstCallOf c ≡ some b → involved b (firstPerform b u .answer) (perform c t .answer) ≡ false
     → StoresAsBefore cs (firstPerform b u .tables) (perform c t .tables))
 
-front-append : (xs ys : List ℕ) → take (length xs) (xs ++ ys) ≡ xs
-front-append [] ys = refl
-front-append (x ∷ xs) ys = λ i. x ∷ front-append xs ys i
-
 front-same : (u : FirstTables) (t : Tables) → Carries u t → EarlyTables u → broken t ≡ false → frontOf t ≡ u
 front-same u t h x b =
     let f = h .fronts in
     let e : length (u .counts) ≡ ownersCell = same-store u t f x (same-broken u t h x ∙ b) .eight in
-    let q : take ownersCell (t .counts) ≡ u .counts = ap (λ (z : List ℕ). take ownersCell z) (f .counts) ∙ (rw e at (front-append (u .counts) (f .behind))) in
+    let q : take ownersCell (t .counts) ≡ u .counts = ap (λ (z : List ℕ). take ownersCell z) (f .counts) ∙ (rw e at (take-append-seam (u .counts) (f .behind))) in
     (λ i. withCounts (q i) t) ∙ sym (f .rest)
 
 stores-from : (cs : List Call) (u : FirstTables) (t : Tables) → Carries u t → EarlyTables u → broken t ≡ false → StoresAsBefore cs u t
