@@ -133,13 +133,13 @@ all-quotes : length quotes ≡ objectLimit
 all-quotes = length-replicate {A = ℕ} objectLimit 1
 
 -- an old store that isn't broken has eight counts, of ties, of subtype constraints and of objects at most 256
-record Within (u : FirstTables) : Type 0 where
-  eight : length (u .counts) ≡ ownersCell
-  few : getD (u .counts) countTies 0 ≤ tieLimit
-  less : getD (u .counts) countSubtypes 0 ≤ subtypeLimit
-  room : getD (u .counts) countObjects 0 ≤ objectLimit
+pub record Within (u : FirstTables) : Type 0 where
+  pub eight : length (u .counts) ≡ ownersCell
+  pub few : getD (u .counts) countTies 0 ≤ tieLimit
+  pub less : getD (u .counts) countSubtypes 0 ≤ subtypeLimit
+  pub room : getD (u .counts) countObjects 0 ≤ objectLimit
 
-unbroken-within : (u : FirstTables) → firstBroken u ≡ false → Within u
+pub unbroken-within : (u : FirstTables) → firstBroken u ≡ false → Within u
 unfolding firstBroken firstWhole firstWithin
 unbroken-within u h =
     let p = every-true _ (not-false _ h) in
