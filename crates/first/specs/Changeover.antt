@@ -3,7 +3,7 @@
 use mathlib.Core.Path.{_≡_, refl, sym, ap, _∙_, subst}
 use mathlib.Core.Bool.{Bool, true, false, not, _&&_, _||_, false≢true}
 use mathlib.Core.Option.{Option, none, some, Option·none-ne-some, Option·some-injective}
-use mathlib.Core.List.{List, [], _∷_, _++_}
+use mathlib.Core.List.{List, [], _∷_, _++_, map}
 use mathlib.Core.Logic.{_⊎_, inl, inr}
 use Prim.Native.Nat.{ℕ, zero, suc, _<_, _≤_}
 use native.Mathlib.Omega.{arith}
@@ -18,21 +18,23 @@ use Rattle.definition.specs.Numbers.{wordBroken, wordHidden, wordShare, wordLat
 use Rattle.definition.specs.Lists.{any, stack}
 use Rattle.definition.specs.Answers.{numberOf, endsIn}
 use Rattle.definition.specs.Groups.{groupsOf}
-use Rattle.definition.specs.Machine.{madeBy}
-use Rattle.definition.specs.Tables.{Tables, shaped, keptOf, classRowsOf, RowNumbers, rowNumbers, ownerAt, viewBase, objectsOf, view, viewOver}
+use Rattle.definition.specs.Machine.{Object, owned, Objects, madeBy}
+use Rattle.definition.specs.Tables.{Tables, shaped, tieAt, subtypeAt, keptOf, classRowsOf, RowNumbers, rowNumbers, ownerAt, viewBase, objectsOf, Rows, rowsOf, view, viewOver}
 use Rattle.definition.specs.Broken.{broken, groupsIn}
 use Rattle.definition.specs.Calls.{numbersFrom, RowCall, rowDefine, rowRecord, rowStart, rowDrop, rowSweep, rowTry, rowTakeBack, Call, callBoot, callRows, callStep, callRun, callTakeBack, Done, done, perform}
 use Rattle.definition.specs.Changeover.{withCounts, tiesFirst, groupsFirst, carry, changeover, firstRowCallOf, firstCallOf, bringsLater, involved, AnswersAsBefore}
-use Rattle.definition.specs.First.Tables.{FirstTables, firstView}
+use Rattle.definition.specs.First.Tables.{FirstTables, FirstRows, firstViewOver, firstView}
 use Rattle.definition.specs.First.Broken.{firstBroken, firstWithin, firstWhole}
 use Rattle.definition.specs.First.Calls.{FirstReply, FirstRowCall, firstRowDefine, firstRowRecord, firstRowStart, firstRowDrop, FirstCall, firstCallBoot, firstCallRows, firstCallStep, firstCallRun, firstPerform}
+use Rattle.layout.specs.Places.{rows-length}
 use Rattle.layout.specs.Tests.{All, every-true}
 use Rattle.unbroken.specs.Groups.{groups-right}
 use Rattle.unbroken.specs.Share.{refused-share}
 use Rattle.unbroken.specs.TakenBack.{taken-late}
 use Rattle.unbroken.specs.Unbroken.{kept-unbroken}
+use Rattle.first.specs.SameObjects.{SameObjects, noObjects, sameObject}
 use Rattle.first.specs.SameBases.{laterRow}
-use Rattle.first.specs.SameRows.{SameRows, todayRow}
+use Rattle.first.specs.SameRows.{plain, SameRows, todayRow}
 use Rattle.first.specs.Carries.{Carries, EarlyTables, carrying, keepsLater, keeps-none, unbroken-keeps-none, eight-counts, tie-numbers, subtype-numbers, no-loads, none-made, same-broken, same-store}
 use Rattle.first.specs.SameCalls.{Unhidden}
 use Rattle.first.specs.KeepsNone.{keeps-early}
@@ -192,6 +194,33 @@ carried-trace u h =
 
 pub carried-late : (u : FirstTables) (t : Tables) → changeover u t .answer ≡ Accepted → perform callTakeBack (changeover u t .tables) ≡ done (Denied (Word wordLate)) (changeover u t .tables)
 carried-late u t h = let f = changeover-filled u t h in rw (f .left) (taken-late (carry u) (carried-whole u (f .sound) .0) (carried-trace u (f .sound)))
+
+-- in one equation: every row as it was, every object the quote's, ties numbered first, no load that can be taken back
+abbrev pub carriedRows : FirstRows → Rows
+carriedRows r =
+    rowsOf (r .classes) (r .kept) (r .cache) (r .ties) (r .subtypes) (map (owned 0) (r .objects)) (r .quote) (r .report)
+    (rowNumbers (numbersFrom 0 (length (r .ties))) (numbersFrom (length (r .ties)) (length (r .subtypes)))) []
+
+all-quoted : (os : List Object) (qs : Objects) → SameObjects os qs → madeBy 1 qs ≡ 0 → qs ≡ map (owned 0) os
+unfolding madeBy
+all-quoted os qs noObjects e = refl
+all-quoted os qs (sameObject {k} {x} {os = os′} {qs = qs′} l h) e = go k l e (λ z. all-quoted os′ qs′ h z)
+  where
+    go : (k : ℕ) → k < 2 → madeBy 1 (owned k x ∷ qs′) ≡ 0 → (madeBy 1 qs′ ≡ 0 → qs′ ≡ map (owned 0) os′) → (owned k x ∷ qs′) ≡ map (owned 0) (x ∷ os′)
+    go zero l e more = λ i. owned 0 x ∷ more e i
+    go (suc zero) l e more = absurd (omega (arith, e))
+    go (suc (suc k)) l e more = absurd (omega (arith, l))
+
+pub carried-rows : (u : FirstTables) → firstBroken u ≡ false → view (carry u) ≡ carriedRows (firstView u)
+unfolding firstView firstViewOver
+carried-rows u h =
+    let s = carried-whole u h .1 in
+    let o = all-quoted (firstView u .objects) (view (carry u) .objects) (s .objects) (carried-fresh u h) in
+    let ties : length (firstView u .ties) ≡ getD (u .counts) countTies 0 = rows-length (tieAt (u .ties)) (getD (u .counts) countTies 0) 0 in
+    let subtypes : length (firstView u .subtypes) ≡ getD (u .counts) countSubtypes 0 = rows-length (subtypeAt (u .subtypes)) (getD (u .counts) countSubtypes 0) 0 in
+    let n = carried-numbers u h ∙ (λ i. rowNumbers (numbersFrom 0 (sym ties i)) (numbersFrom (sym ties i) (sym subtypes i))) in
+    let f : plain (firstView u .objects) (view (carry u)) ≡ firstView u = sym (s .rest) in
+    λ i. rowsOf (f i .classes) (f i .kept) (f i .cache) (f i .ties) (f i .subtypes) (o i) (f i .quote) (f i .report) (n i) (carried-trace u h i)
 
 -- the groups are those of the ties so numbered
 pub carried-grouped : (u : FirstTables) → firstBroken u ≡ false → groupsIn (carry u) ≡ groupsOf (view (carry u) .ties) (numbersFrom 0 (getD (u .counts) countTies 0))
