@@ -1,5 +1,5 @@
 -- Traces that are no list of loads, paper 10: which count as broken, and what taking one back leaves where it doesn't. On tables of the published lengths, with counts
--- within their limits, that show these rows.
+-- within their limits and the right groups, that show these rows.
 use mathlib.Core.Path.{_≡_, refl, ap, _∙_}
 use mathlib.Core.Bool.{Bool, true, false, not}
 use mathlib.Core.List.{List, [], _∷_, _++_, map}
@@ -21,7 +21,7 @@ use Rattle.definition.specs.Verifier as Verifier
 use Rattle.definition.specs.Machine.{free, owned, madeBy, rewritten, jumps, step, emptyValue}
 use Rattle.definition.specs.Loading.{subtypeIs, newSubtypes, overrideTie, overrideTies, define, recorded, started}
 use Rattle.definition.specs.Tables.{Tables, shaped, Rows, withObjects, fileAt, classAt, view, Level, level, frame, withFrames, withTrace, cutTo}
-use Rattle.definition.specs.Broken.{within, isObject, classFits, classesFit, entryFits, tieFits, subtypeFits, valueFits, localFits, objectFits, frameFits, next, others, inTurn, numbered, sound, traceFits, whole, broken, levelFits}
+use Rattle.definition.specs.Broken.{within, isObject, classFits, classesFit, entryFits, tieFits, subtypeFits, valueFits, localFits, objectFits, frameFits, next, others, inTurn, numbered, sound, traceFits, grouped, whole, broken, levelFits}
 use Rattle.definition.specs.Calls.{numberedOn, callDefine, bootRows, turn, defineRows, entryTrace, recordRows, startRows, perform, callRecord, callTakeBack, takenBack}
 use Rattle.definition.specs.Computing.OnRows.{settle, onRows, runRows, performRows, performAllRows}
 use Rattle.definition.specs.Computing.Samples.{fileF, two, method, fileOf, plain, taker, lifts, ready, tied12, tied123}
@@ -134,10 +134,10 @@ tail : {A : Type 0} → List A → List A
 tail [] = []
 tail (x ∷ xs) = xs
 
-module _ (t : Tables) (s : shaped t ≡ true) (w : within (t .counts) ≡ true) where
+module _ (t : Tables) (s : shaped t ≡ true) (w : within (t .counts) ≡ true) (g : grouped t ≡ true) where
   broken-is : (r : Rows) → view t ≡ r → (b : Bool) → fits r ≡ b → broken t ≡ not b
   unfolding broken whole every fits
-  broken-is r e b h = rw (s, w, e) (ap not h)
+  broken-is r e b h = rw (s, w, g, e) (ap not h)
 
   pub record Right : Type 0 where
     pub kept : All (λ c. view t ≡ c .rows → (broken t ≡ false) × (takenOn t ≡ 0 ∷ c .left)) fine

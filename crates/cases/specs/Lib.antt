@@ -13,3 +13,4 @@ pub mod Versions
 pub mod Share
 pub mod TakenBack
 pub mod Levels
+pub mod Groups

@@ -26,6 +26,7 @@ use Rattle.definition.specs.Calls.{closed, numberedOn, Call, callDefine, callSt
 use Rattle.definition.specs.Computing.OnRows.{settle, onRows, runRows, performRows, performAllRows}
 use Rattle.definition.specs.Computing.Samples.{fileF, two, method, fileOf, plain, taker, coded, lifts, pushes, ready, tied12, tied123}
 use Rattle.layout.specs.Tests.{All}
+use Rattle.layout.specs.GroupedRows.{no-ties-grouped}
 use Rattle.unbroken.specs.OnRows.{Shows, same-perform, same-all}
 
 -- so many objects of task k, and so many free rows
@@ -92,10 +93,11 @@ record Computed : Type 0 where
   few : sound (holding (of 1 192)) ≡ true
   many : sound (holding (of 1 193)) ≡ false
   quotes : sound (holding (of 0 256)) ≡ true
+  untied : (os : Objects) → holding os .ties ≡ []
 
 computed : Computed
 unfolding of unowned holding shares told toldRows isObject classFits classesFit entryFits tieFits subtypeFits valueFits localFits objectFits frameFits next others inTurn numbered sound allFrom endsIn isSome number numberOfStep numberOf _>>=_ need take? defineRows entryTrace recordRows startRows dropRows answerOf stepTask stepOn stepRows turnOf turn find lower superOf loaderOf ownSlots slotsIn slots slotIs hasField sameSignature alike methodsOf hasMethod selected tieEdges subtypeEdges edges pairAgrees rowAgrees agreesOver agrees tieIs newTie newTies signatureTies agreesAfter post byte short name count fieldsIn oneIn argumentsIn signatureIn namesIn mapIn mapsFrom mapsIn methodsIn ends sameField sameMethod readFile pick opcodeOf inlineLength shortAt extend instructionOf sizedAs decode every all any doubled indexOf isNone toList sameList filled subtypeIs newSubtypes overrideTie overrideTies define recorded started existing initialValue newObject pop! popAll! int! reference! kind! kinds! room! object! now under! give execute step Maybe._>>=_ Maybe.need sameRequest has fires rest grow reachFrom reach leads seek nearest below fileAt classAt typeOfName meetClass meetInt meets pop popAll isNamed effect returns target goesOn mapAt localType meetLocal meetAll meetMap flowInto flowToTarget startAt after Verifier.turn mapsPast verify typesAt unmappedFrom unmapped notesOf settle onRows runRows performRows performAllRows two method fileOf plain fileF taker coded lifts pushes ready tied12 tied123 ofKind! compute jumps meetKind returnKind notesOfMethod unused made roomless shareUsed madeBy rewritten changed objectHeld inUse named roots linksFrom reached sweptFrom freedFrom sweepRows numberedOn rows
-computed = record { told = refl; whole = refl; few = refl; many = refl; quotes = refl }
+computed = record { told = refl; whole = refl; few = refl; many = refl; quotes = refl; untied = λ os. refl }
 
 -- On tables of the published lengths, with counts within their limits, that show these rows
 
@@ -104,9 +106,9 @@ toldOn t c = told (perform (c .last) (performAll (c .before) t .tables) .answer)
 
 broken-is : (t : Tables) → shaped t ≡ true → within (t .counts) ≡ true → (os : Objects) → view t ≡ holding os → (b : Bool) → sound (holding os) ≡ b → broken t ≡ not b
 unfolding broken whole every holding traceFits
-broken-is t s w os e b h = rw (s, w, e, h) (go b)
+broken-is t s w os e b h = rw (s, w, no-ties-grouped t (ap (λ (r : Rows). r .ties) e ∙ computed .untied os), e, h) (go b)
   where
-    go : (b : Bool) → not (every (b ∷ true ∷ [])) ≡ not b
+    go : (b : Bool) → not (every (b ∷ true ∷ true ∷ [])) ≡ not b
     go true = refl
     go false = refl
 

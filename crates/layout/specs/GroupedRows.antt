@@ -8,12 +8,12 @@ use native.Mathlib.Omega.{arith}
 use lib.ListN.{length, getD}
 use lib.Dec.{eqb}
 use borrow.Author.Tests.{eqb-true, eq-eqb}
-use Rattle.definition.specs.Numbers.{groupsCell}
+use Rattle.definition.specs.Numbers.{countTies, groupsCell}
 use Rattle.definition.specs.Lists.{rows, writeRows, sameList}
 use Rattle.definition.specs.Requests.{at}
 use Rattle.definition.specs.Constraints.{Tie}
 use Rattle.definition.specs.Groups.{groupOf, cellOf, groupsOf}
-use Rattle.definition.specs.Tables.{Tables, numberAt, putNumber, tiesOf, numbersOf, viewOver, view, putGroups}
+use Rattle.definition.specs.Tables.{Tables, tieAt, numberAt, putNumber, tiesOf, numbersOf, viewOver, view, putGroups}
 use Rattle.definition.specs.Broken.{groupsIn, grouped}
 use Rattle.layout.specs.Places.{rows-length, writeRows-length}
 use Rattle.layout.specs.NumberedRows.{putNumber-length, numbers-before, numbers-behind, numbers-kept, numbers-back}
@@ -55,6 +55,13 @@ grouped-is t h = equal-lists _ _ h
 pub is-grouped : (t : Tables) → groupsIn t ≡ groupsOf (tiesOf t) (numbersOf t .ties) → grouped t ≡ true
 unfolding grouped view viewOver
 is-grouped t e = ap (λ (gs : List ℕ). sameList gs (groupsOf (tiesOf t) (numbersOf t .ties))) e ∙ list-equal (groupsOf (tiesOf t) (numbersOf t .ties))
+
+-- without ties there is nothing to be wrong
+pub no-ties-grouped : (t : Tables) → view t .ties ≡ [] → grouped t ≡ true
+unfolding view viewOver rows groupsOf
+no-ties-grouped t e =
+    let n : getD (t .counts) countTies 0 ≡ 0 = sym (rows-length (tieAt (t .ties)) (getD (t .counts) countTies 0) 0) ∙ ap length e in
+    is-grouped t (ap (λ (k : ℕ). rows (numberAt groupsCell (t .counts)) k 0) n ∙ ap (λ (ts : List Tie). groupsOf ts (numbersOf t .ties)) (sym e))
 
 -- The section
 

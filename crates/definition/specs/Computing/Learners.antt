@@ -2,7 +2,9 @@
 use mathlib.Core.Path.{_≡_, refl}
 use mathlib.Core.List.{List, [], _∷_, _++_, map}
 use Prim.Native.Nat.{ℕ}
-use Rattle.definition.specs.Lists.{every, all, any, doubled, indexOf, isNone, toList, sameList, filled, rows}
+use lib.ListN.{replicate, set}
+use Rattle.definition.specs.Numbers.{countsLength, countTies}
+use Rattle.definition.specs.Lists.{every, all, any, doubled, indexOf, isNone, toList, sameList, filled, rows, writeRows, writeStack}
 use Rattle.definition.specs.Chains.{has, fires, rest, grow, reachFrom, reach, leads}
 use Rattle.definition.specs.Requests.{sameRequest}
 use Rattle.definition.specs.Superclasses.{seek, nearest, below}
@@ -13,7 +15,9 @@ use Rattle.definition.specs.Instructions.{pick, opcodeOf, inlineLength, 
 use Rattle.definition.specs.Verifier.{typeOfName, meetClass, meetInt, meets, meetKind, pop, popAll, effect, returns, returnKind, target, goesOn, mapAt, localType, meetLocal, meetAll, meetMap, flowInto, flowToTarget, startAt, after, turn, mapsPast, verify, typesAt, unmappedFrom, unmapped, notesOfMethod, notesOf}
 use Rattle.definition.specs.Machine.{objectHeld, existing, unused, made, rewritten, changed, roomless, shareUsed, madeBy, initialValue, newObject, pop!, popAll!, int!, reference!, ofKind!, kind!, kinds!, compute, jumps, room!, object!, now, under!, give, execute, step}
 use Rattle.definition.specs.Loading.{subtypeIs, newSubtypes, overrideTie, overrideTies, define, recorded, started}
-use Rattle.definition.specs.Tables.{fileAt, classAt}
+use Rattle.definition.specs.Groups.{numbersOfTies, lesser, lowest, groupOf, cellOf, groupsOf}
+use Rattle.definition.specs.Tables.{fileAt, classAt, tables, tie, withTies, withNumbers, noRows, numberAt, putNumber, putNumbers, putTrace, putGroups, countsOf, put}
+use Rattle.definition.specs.Broken.{groupsIn}
 use Rattle.definition.specs.Calls.{defineRows, entryTrace, recordRows, startRows, dropRows, answerOf, stepTask, stepOn, stepRows, carried}
 use Rattle.definition.specs.Answers.{refused, number, numberOfStep, numberOf, _>>=_, need, take?}
 use Rattle.definition.specs.Computing.OnRows.{settle, onRows, runRows, performRows, performAllRows}
@@ -57,6 +61,16 @@ notes-first : performAllRows (ready ++ callDefine 1 (returning 40 2) ∷ callRec
     ≡ rowNumbers (1 ∷ 2 ∷ []) (0 ∷ [])
 unfolding rows numberedOn returning every all any doubled indexOf isNone toList sameList filled sameRequest has fires rest grow reachFrom reach leads seek nearest below find lower superOf loaderOf ownSlots slotsIn slots slotIs hasField sameSignature alike methodsOf hasMethod selected tieEdges subtypeEdges edges pairAgrees rowAgrees agreesOver agrees tieIs newTie newTies signatureTies agreesAfter post byte short name count fieldsIn oneIn argumentsIn signatureIn namesIn mapIn mapsFrom mapsIn methodsIn ends sameField sameMethod readFile pick opcodeOf inlineLength shortAt extend instructionOf sizedAs decode typeOfName meetClass meetInt meets meetKind pop popAll isNamed effect returns returnKind target goesOn mapAt localType meetLocal meetAll meetMap flowInto flowToTarget startAt after turn mapsPast verify typesAt unmappedFrom unmapped notesOf existing unused roomless shareUsed madeBy initialValue newObject pop! popAll! int! reference! kind! kinds! room! object! now under! give execute step subtypeIs newSubtypes overrideTie overrideTies define recorded started fileAt classAt defineRows entryTrace recordRows startRows dropRows answerOf stepTask stepOn stepRows number numberOfStep numberOf _>>=_ need take? settle onRows runRows performRows performAllRows two method fileOf plain fileF taker coded lifts pushes ready tied12 tied123 Maybe._>>=_ Maybe.need notesOfMethod ofKind! compute jumps
 notes-first = refl
+
+-- A group has the lowest number of its ties, not their place: the ties of numbers 1 and 2 are joined by that of number 4
+groups-lowest : groupsOf (tie 1 2 12 ∷ tie 3 4 12 ∷ tie 2 3 12 ∷ []) (1 ∷ 2 ∷ 4 ∷ []) ≡ 1 ∷ 1 ∷ 1 ∷ []
+unfolding numbersOfTies lesser lowest groupOf cellOf groupsOf has fires rest grow reachFrom reach sameRequest tieEdges pick
+groups-lowest = refl
+
+-- Where the tie that joined them is taken back, the two groups part: of three rows in group 0 the first two are left
+groups-part : groupsIn (put (withTies (tie 1 2 12 ∷ tie 3 4 12 ∷ []) (withNumbers (rowNumbers (0 ∷ 1 ∷ []) []) noRows)) (tables (set (replicate countsLength 0) countTies 3) [] [] [] [] [] [] [])) ≡ 0 ∷ 1 ∷ []
+unfolding put putGroups putTrace putNumbers putNumber numberAt countsOf writeRows writeStack rows numbersOfTies lesser lowest groupOf cellOf groupsOf has fires rest grow reachFrom reach sameRequest tieEdges pick
+groups-part = refl
 
 -- Two classes of one name are two classes
 names : numbers (tied12 ++ callDefine 1 (plain 12 2) ∷ callDefine 3 (plain 12 2) ∷ callRecord 2 12 4 ∷ callRecord 2 12 3 ∷ []) ≡ 0 ∷ 0 ∷ 0 ∷ 0 ∷ 0 ∷ 0 ∷ 0 ∷ 0 ∷ 9 ∷ 0 ∷ []
