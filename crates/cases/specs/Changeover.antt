@@ -118,3 +118,68 @@ record Computed : Type 0 where
 computed : Computed
 unfolding oldAfter calling halfRun keeping changes refusals marksOf marks ownerOf numbersOfTies lesser lowest groupOf cellOf groupsOf isObject entryFits tieFits subtypeFits allFrom isSome firstArgument firstIsNamed firstSameSignature firstAlike firstHasMethod firstSelected firstSignatureTies firstOverrideTie firstOverrideTies firstSignatureIn firstMethodsIn firstSameMethod firstReadFile firstOpcodeOf firstInlineLength firstDecode firstEffect firstVerify firstTypesAt firstNotesOfMethod firstNotesOf firstHides firstDefine firstExisting firstObject! firstCompute firstNow firstGive firstExecute firstStep firstStarted firstFileAt firstClassAt firstClassFits firstClassesFit firstValueFits firstLocalFits firstObjectFits firstFrameFits firstSound firstDefineRows firstRecordRows firstStartRows firstDropRows firstStepTask firstStepOn firstStepRows numberedOn number numberOfStep numberOf _>>=_ need take? defineRows entryTrace recordRows startRows dropRows answerOf stepTask stepOn stepRows turnOf turn find lower superOf loaderOf ownSlots slotsIn slots slotIs hasField sameSignature alike methodsOf hasMethod selected tieEdges subtypeEdges edges pairAgrees rowAgrees agreesOver agrees tieIs newTie newTies signatureTies agreesAfter post byte short name count fieldsIn oneIn argumentsIn signatureIn namesIn mapIn mapsFrom mapsIn methodsIn ends sameField sameMethod readFile pick opcodeOf inlineLength shortAt extend instructionOf sizedAs decode every all any doubled indexOf isNone toList sameList filled subtypeIs newSubtypes overrideTie overrideTies define recorded started existing initialValue newObject pop! popAll! int! reference! kind! kinds! room! object! now under! give execute step Maybe._>>=_ Maybe.need sameRequest has fires rest grow reachFrom reach leads seek nearest below fileAt classAt typeOfName meetClass meetInt meets pop popAll isNamed effect returns target goesOn mapAt localType meetLocal meetAll meetMap flowInto flowToTarget startAt after Verifier.turn mapsPast verify typesAt unmappedFrom unmapped notesOf settle onRows runRows performRows performAllRows two method fileOf plain taker ofKind! compute jumps meetKind returnKind notesOfMethod unused made roomless shareUsed madeBy rewritten changed objectHeld inUse named roots linksFrom reached sweptFrom freedFrom sweepRows takenBack cutTo tryRows triedWith rows lifts
 computed = record { whole = refl; marked = refl; answered = refl; broken = refl }
+
+-- On old tables u of the published lengths, with counts within their limits, that show these rows, and new tables t of theirs
+
+unbroken-is : (u : FirstTables) → firstShaped u ≡ true → firstWithin (u .counts) ≡ true → (r : FirstRows) → firstView u ≡ r → (b : Bool) → firstSound r ≡ b → firstBroken u ≡ not b
+unfolding firstBroken firstWhole every
+unbroken-is u s w r e b h = rw (s, w, e, h) (go b)
+  where
+    go : (b : Bool) → not (every (b ∷ [])) ≡ not b
+    go true = refl
+    go false = refl
+
+-- carried: accepted, with these numbers, groups and owners, and each call gets this answer
+pub record Goes (u : FirstTables) (t : Tables) (c : ChangeCase) : Type 0 where
+  pub accepted : changeover u t .answer ≡ Accepted
+  pub marked : marksOf (view (changeover u t .tables)) ≡ marks c
+  pub grouped : groupsIn (changeover u t .tables) ≡ c .groups
+  pub answered : performAll (c .calls) (changeover u t .tables) .answer ≡ c .replies
+
+-- each case goes so, and the others are refused with 1, with the new tables as they were
+pub record ChangesRight (u : FirstTables) (t : Tables) : Type 0 where
+  pub carried : All (λ c. firstView u ≡ c .old → Goes u t c) changes
+  pub refused : All (λ r. firstView u ≡ r → (changeover u t .answer ≡ Denied (Word 1)) × (changeover u t .tables ≡ t)) refusals
+
+head : {A : Type 0} → A → List A → A
+head a [] = a
+head a (x ∷ xs) = x
+
+tail : {A : Type 0} → List A → List A
+tail [] = []
+tail (x ∷ xs) = xs
+
+third : List (List ℕ) → List ℕ
+third xs = head [] (tail (tail xs))
+
+module _ (u : FirstTables) (t : Tables) (s : firstShaped u ≡ true) (w : firstWithin (u .counts) ≡ true) (n : shaped t ≡ true) where
+  goes : (c : ChangeCase) → firstSound (c .old) ≡ true → marksOf (carriedRows (c .old)) ≡ marks c → performAllRows (c .calls) (carriedRows (c .old)) .answer ≡ c .replies → firstView u ≡ c .old → Goes u t c
+  unfolding marksOf marks third head tail
+  goes c h m a e =
+      let b : firstBroken u ≡ false = unbroken-is u s w (c .old) e true h in
+      let f = filled-changeover u t n b in
+      let left = changeover-filled u t f .left in
+      let shown : Shows (changeover u t .tables) (carriedRows (c .old)) = record { unbroken = rw left (carried-whole u b .0); rows = ap view left ∙ (carried-rows u b ∙ ap carriedRows e) } in
+      let marked : marksOf (view (changeover u t .tables)) ≡ marks c = ap marksOf (shown .rows) ∙ m in
+      record {
+        accepted = f;
+        marked = marked;
+        grouped = groups-right (changeover u t .tables) (shown .unbroken) ∙ ap third marked;
+        answered = same-all (c .calls) (changeover u t .tables) (carriedRows (c .old)) shown .0 ∙ a;
+      }
+
+  stays : (r : FirstRows) → firstSound r ≡ false → firstView u ≡ r → (changeover u t .answer ≡ Denied (Word 1)) × (changeover u t .tables ≡ t)
+  stays r h e = let x = refused-changeover u t (inr (unbroken-is u s w r e false h)) in (x .answers, x .left)
+
+  pub changeover-cases : ChangesRight u t
+  unfolding head tail
+  changeover-cases = record { carried = each changes (computed .whole) (computed .marked) (computed .answered); refused = none refusals (computed .broken) }
+    where
+      each : (cs : List ChangeCase) → map (λ c. firstSound (c .old)) cs ≡ map (λ _. true) cs → map (λ c. marksOf (carriedRows (c .old))) cs ≡ map marks cs
+          → map (λ c. performAllRows (c .calls) (carriedRows (c .old)) .answer) cs ≡ map (λ c. c .replies) cs → All (λ c. firstView u ≡ c .old → Goes u t c) cs
+      each [] p q r = tt
+      each (c ∷ cs) p q r = ((λ e. goes c (ap (head true) p) (ap (head []) q) (ap (head []) r) e), each cs (ap tail p) (ap tail q) (ap tail r))
+
+      none : (rs : List FirstRows) → map firstSound rs ≡ map (λ _. false) rs → All (λ r. firstView u ≡ r → (changeover u t .answer ≡ Denied (Word 1)) × (changeover u t .tables ≡ t)) rs
+      none [] p = tt
+      none (r ∷ rs) p = ((λ e. stays r (ap (head true) p) e), none rs (ap tail p))
