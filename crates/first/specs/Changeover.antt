@@ -311,8 +311,11 @@ front-same u t h x b =
 
 stores-from : (cs : List Call) (u : FirstTables) (t : Tables) → Carries u t → EarlyTables u → broken t ≡ false → StoresAsBefore cs u t
 stores-from [] u t h x k = front-same u t h x k
-stores-from (c ∷ cs) u t h x k = (front-same u t h x k, λ b e. subst (λ (z : Call). involved b (firstPerform b u .answer) (perform z t .answer) ≡ false → StoresAsBefore cs (firstPerform b u .tables) (perform z t .tables)) (today-of c b e)
-    (λ n. let a = same-plain u t h x b (not-involved b _ _ n) in stores-from cs (firstPerform b u .tables) (perform (today b) t .tables) (a .tables) (keeps-early b u x) (kept-unbroken (today b) t k)))
+stores-from (c ∷ cs) u t h x k = (
+  front-same u t h x k,
+  λ b e. subst (λ (z : Call). involved b (firstPerform b u .answer) (perform z t .answer) ≡ false → StoresAsBefore cs (firstPerform b u .tables) (perform z t .tables)) (today-of c b e)
+      (λ n. let a = same-plain u t h x b (not-involved b _ _ n) in stores-from cs (firstPerform b u .tables) (perform (today b) t .tables) (a .tables) (keeps-early b u x) (kept-unbroken (today b) t k)),
+)
 
 pub stores-as-before : (u : FirstTables) (t : Tables) → changeover u t .answer ≡ Accepted → (cs : List Call) → StoresAsBefore cs u (changeover u t .tables)
 stores-as-before u t h cs =
