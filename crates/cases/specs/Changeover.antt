@@ -63,13 +63,15 @@ unfoldable pub calling : List ℕ
 calling = fileOf 10 2 2 (method 20 1 1 (0xBB ∷ 0 ∷ 10 ∷ 0x3A ∷ 2 ∷ 0x19 ∷ 0 ∷ 0x15 ∷ 1 ∷ 0xB6 ∷ 0 ∷ 10 ∷ 0 ∷ 21 ∷ 0 ∷ 1 ∷ 0 ∷ 1 ∷ 0xAC ∷ []) ++ method 21 1 1 (0x15 ∷ 1 ∷ 0xAC ∷ []))
 
 -- A note is posted and then a tie; a report makes two objects; a quote is half run, in a frame that another waits for
-unfoldable pub halfRun : FirstRows
-halfRun = oldAfter
-    (asks (firstRowRecord 1 2 0) ∷ asks (firstRowRecord 2 2 0) ∷ asks (firstRowDefine 1 lifts)
+unfoldable pub halfMoves : List OldMove
+halfMoves =
+    asks (firstRowRecord 1 2 0) ∷ asks (firstRowRecord 2 2 0) ∷ asks (firstRowDefine 1 lifts)
     ∷ asks (firstRowDefine 1 (taker 40 2)) ∷ asks (firstRowRecord 2 40 2) ∷ asks (firstRowDefine 2 (taker 41 40))
     ∷ asks (firstRowDefine 1 calling) ∷ asks (firstRowStart 1 1 10 20 5) ∷ steps
-    ∷ asks (firstRowStart 0 1 10 20 7) ∷ steps ∷ steps ∷ steps ∷ steps ∷ steps ∷ steps ∷ [])
-    firstBootRows
+    ∷ asks (firstRowStart 0 1 10 20 7) ∷ steps ∷ steps ∷ steps ∷ steps ∷ steps ∷ steps ∷ []
+
+unfoldable pub halfRun : FirstRows
+halfRun = oldAfter halfMoves firstBootRows
 
 -- class 10 below Object under loader 1, whose kept file has this version byte
 unfoldable pub keeping : ℕ → FirstRows
@@ -88,11 +90,13 @@ pub record ChangeCase : Type 0 where
 abbrev change : FirstRows → List ℕ → List ℕ → List ℕ → List ℕ → List Call → List Reply → ChangeCase
 change r t s g o c a = record { old = r; ties = t; subtypes = s; groups = g; owners = o; calls = c; replies = a }
 
+unfoldable pub onHalf : ChangeCase
+onHalf = change halfRun (0 ∷ []) (1 ∷ []) (0 ∷ []) (1 ∷ 1 ∷ 1 ∷ 1 ∷ []) (callStep ∷ callStep ∷ callStep ∷ callTakeBack ∷ []) (Stepped (Ran 0) ∷ Stepped (Finished 0 7) ∷ Stepped (Ran 1) ∷ Denied (Word 19) ∷ [])
+
 unfoldable pub changes : List ChangeCase
 changes =
     -- the tie is numbered first, every object is the quote's, the quote goes on where it was and ends with its int; then the report goes on, and no load can be taken back
-    change halfRun (0 ∷ []) (1 ∷ []) (0 ∷ []) (1 ∷ 1 ∷ 1 ∷ 1 ∷ []) (callStep ∷ callStep ∷ callStep ∷ callTakeBack ∷ [])
-    (Stepped (Ran 0) ∷ Stepped (Finished 0 7) ∷ Stepped (Ran 1) ∷ Denied (Word 19) ∷ [])
+    onHalf
     -- tables of zeros, before any boot
     ∷ change firstNoRows [] [] [] [] (callStep ∷ callBoot ∷ []) (Stepped Idle ∷ Accepted ∷ [])
     -- a kept file of version 1
@@ -116,7 +120,7 @@ record Computed : Type 0 where
   broken : map firstSound refusals ≡ map (λ _. false) refusals
 
 computed : Computed
-unfolding oldAfter calling halfRun keeping changes refusals marksOf marks ownerOf numbersOfTies lesser lowest groupOf cellOf groupsOf isObject entryFits tieFits subtypeFits allFrom isSome firstArgument firstIsNamed firstSameSignature firstAlike firstHasMethod firstSelected firstSignatureTies firstOverrideTie firstOverrideTies firstSignatureIn firstMethodsIn firstSameMethod firstReadFile firstOpcodeOf firstInlineLength firstDecode firstEffect firstVerify firstTypesAt firstNotesOfMethod firstNotesOf firstHides firstDefine firstExisting firstObject! firstCompute firstNow firstGive firstExecute firstStep firstStarted firstFileAt firstClassAt firstClassFits firstClassesFit firstValueFits firstLocalFits firstObjectFits firstFrameFits firstSound firstDefineRows firstRecordRows firstStartRows firstDropRows firstStepTask firstStepOn firstStepRows numberedOn number numberOfStep numberOf _>>=_ need take? defineRows entryTrace recordRows startRows dropRows answerOf stepTask stepOn stepRows turnOf turn find lower superOf loaderOf ownSlots slotsIn slots slotIs hasField sameSignature alike methodsOf hasMethod selected tieEdges subtypeEdges edges pairAgrees rowAgrees agreesOver agrees tieIs newTie newTies signatureTies agreesAfter post byte short name count fieldsIn oneIn argumentsIn signatureIn namesIn mapIn mapsFrom mapsIn methodsIn ends sameField sameMethod readFile pick opcodeOf inlineLength shortAt extend instructionOf sizedAs decode every all any doubled indexOf isNone toList sameList filled subtypeIs newSubtypes overrideTie overrideTies define recorded started existing initialValue newObject pop! popAll! int! reference! kind! kinds! room! object! now under! give execute step Maybe._>>=_ Maybe.need sameRequest has fires rest grow reachFrom reach leads seek nearest below fileAt classAt typeOfName meetClass meetInt meets pop popAll isNamed effect returns target goesOn mapAt localType meetLocal meetAll meetMap flowInto flowToTarget startAt after Verifier.turn mapsPast verify typesAt unmappedFrom unmapped notesOf settle onRows runRows performRows performAllRows two method fileOf plain taker ofKind! compute jumps meetKind returnKind notesOfMethod unused made roomless shareUsed madeBy rewritten changed objectHeld inUse named roots linksFrom reached sweptFrom freedFrom sweepRows takenBack cutTo tryRows triedWith rows lifts
+unfolding oldAfter calling halfMoves halfRun keeping onHalf changes refusals marksOf marks ownerOf numbersOfTies lesser lowest groupOf cellOf groupsOf isObject entryFits tieFits subtypeFits allFrom isSome firstArgument firstIsNamed firstSameSignature firstAlike firstHasMethod firstSelected firstSignatureTies firstOverrideTie firstOverrideTies firstSignatureIn firstMethodsIn firstSameMethod firstReadFile firstOpcodeOf firstInlineLength firstDecode firstEffect firstVerify firstTypesAt firstNotesOfMethod firstNotesOf firstHides firstDefine firstExisting firstObject! firstCompute firstNow firstGive firstExecute firstStep firstStarted firstFileAt firstClassAt firstClassFits firstClassesFit firstValueFits firstLocalFits firstObjectFits firstFrameFits firstSound firstDefineRows firstRecordRows firstStartRows firstDropRows firstStepTask firstStepOn firstStepRows numberedOn number numberOfStep numberOf _>>=_ need take? defineRows entryTrace recordRows startRows dropRows answerOf stepTask stepOn stepRows turnOf turn find lower superOf loaderOf ownSlots slotsIn slots slotIs hasField sameSignature alike methodsOf hasMethod selected tieEdges subtypeEdges edges pairAgrees rowAgrees agreesOver agrees tieIs newTie newTies signatureTies agreesAfter post byte short name count fieldsIn oneIn argumentsIn signatureIn namesIn mapIn mapsFrom mapsIn methodsIn ends sameField sameMethod readFile pick opcodeOf inlineLength shortAt extend instructionOf sizedAs decode every all any doubled indexOf isNone toList sameList filled subtypeIs newSubtypes overrideTie overrideTies define recorded started existing initialValue newObject pop! popAll! int! reference! kind! kinds! room! object! now under! give execute step Maybe._>>=_ Maybe.need sameRequest has fires rest grow reachFrom reach leads seek nearest below fileAt classAt typeOfName meetClass meetInt meets pop popAll isNamed effect returns target goesOn mapAt localType meetLocal meetAll meetMap flowInto flowToTarget startAt after Verifier.turn mapsPast verify typesAt unmappedFrom unmapped notesOf settle onRows runRows performRows performAllRows two method fileOf plain taker ofKind! compute jumps meetKind returnKind notesOfMethod unused made roomless shareUsed madeBy rewritten changed objectHeld inUse named roots linksFrom reached sweptFrom freedFrom sweepRows takenBack cutTo tryRows triedWith rows lifts
 computed = record { whole = refl; marked = refl; answered = refl; broken = refl }
 
 -- On old tables u of the published lengths, with counts within their limits, that show these rows, and new tables t of theirs

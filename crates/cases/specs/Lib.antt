@@ -15,3 +15,4 @@ pub mod TakenBack
 pub mod Levels
 pub mod Groups
 pub mod Changeover
+pub mod FromBoot

@@ -1,0 +1,130 @@
+-- The first case of a changeover from a boot: the old machine's calls, on any tables that its boot accepts, lead to an old store that shows those rows.
+use mathlib.Core.Path.{_≡_, refl, sym, ap, _∙_, subst}
+use mathlib.Core.Bool.{Bool, true, false, not, _&&_, false≢true}
+use mathlib.Core.List.{List, [], _∷_, _++_, map}
+use mathlib.Core.Logic.{_⊎_, inl, inr}
+use native.Mathlib.Omega.{arith}
+use lib.Dec.{eqb}
+use borrow.Author.Tests.{eqb-false, not-false}
+use Prim.Native.Nat.{ℕ, zero, suc}
+use lib.ListN.{length}
+use Rattle.definition.specs.declared.Refusal.the-variants.{Word}
+use Rattle.definition.specs.declared.Answer.the-variants.{Idle, Ran, Finished}
+use Rattle.definition.specs.declared.Reply.{Reply}
+use Rattle.definition.specs.declared.Reply.the-variants.{Accepted, Stepped, Denied}
+use Rattle.definition.specs.Answers.{number, numberOfStep, numberOf, Result, refused, ok, _>>=_, need, take?}
+use Rattle.definition.specs.Groups.{numbersOfTies, lesser, lowest, groupOf, cellOf, groupsOf}
+use Rattle.definition.specs.Loading.{subtypeIs, newSubtypes, overrideTie, overrideTies, define, recorded, started}
+use Rattle.definition.specs.Tables.{Tables, shaped, Rows, classRow, entry, ownerOf, cutTo, view, fileAt, classAt, sizeOf}
+use Rattle.definition.specs.Broken.{isObject, entryFits, tieFits, subtypeFits, groupsIn}
+use Rattle.definition.specs.Calls.{numberedOn, boot, Call, callBoot, callRows, callStep, perform, callTakeBack, Done, done, performAll, tryRows, triedWith, takenBack, turn, turnOf, defineRows, entryTrace, recordRows, startRows, dropRows, sweepRows, answerOf, stepTask, stepOn, stepRows}
+use Rattle.definition.specs.Changeover.{carry, changeover}
+use Rattle.definition.specs.First.Signatures.{firstArgument, firstIsNamed, firstSameSignature, firstAlike, firstHasMethod, firstSelected, firstSignatureTies, firstOverrideTie, firstOverrideTies}
+use Rattle.definition.specs.First.Files.{firstSignatureIn, firstMethodsIn, firstSameMethod, firstReadFile, firstOpcodeOf, firstInlineLength, firstDecode}
+use Rattle.definition.specs.First.Verifier.{firstEffect, firstVerify, firstTypesAt, firstNotesOfMethod, firstNotesOf, firstHides, firstDefine}
+use Rattle.definition.specs.First.Machine.{firstExisting, firstObject!, firstCompute, firstNow, firstGive, firstExecute, firstStep, firstStarted}
+use Rattle.definition.specs.First.Tables.{FirstTables, FirstRows, firstRowsOf, firstNoRows, firstShaped, firstFileAt, firstClassAt, firstView}
+use Rattle.definition.specs.First.Broken.{firstClassFits, firstClassesFit, firstValueFits, firstLocalFits, firstObjectFits, firstFrameFits, firstSound, firstWithin, firstWhole, firstBroken}
+use Rattle.definition.specs.First.Calls.{FirstReply, FirstCall, firstCallRows, firstCallStep, firstCarried, firstWrap, firstBoot, firstPerform, firstPerformAll, FirstGiven, firstBootRows, FirstRowCall, firstRowDefine, firstRowRecord, firstRowStart, firstOnRowCall, firstDefineRows, firstRecordRows, firstStartRows, firstDropRows, firstStepTask, firstStepOn, firstStepRows}
+use Rattle.definition.specs.Lists.{every, all, allFrom, any, isSome, doubled, indexOf, isNone, toList, sameList, filled, rows}
+use Rattle.definition.specs.Maybe as Maybe
+use Rattle.definition.specs.Chains.{has, fires, rest, grow, reachFrom, reach, leads}
+use Rattle.definition.specs.Requests.{sameRequest}
+use Rattle.definition.specs.Superclasses.{seek, nearest, below}
+use Rattle.definition.specs.Classes.{find, lower, superOf, loaderOf, ownSlots, slotsIn, slots, slotIs, hasField, sameSignature, alike, methodsOf, hasMethod, selected, isNamed}
+use Rattle.definition.specs.Constraints.{tieEdges, subtypeEdges, edges, pairAgrees, rowAgrees, agreesOver, agrees, tieIs, newTie, newTies, signatureTies, agreesAfter, post}
+use Rattle.definition.specs.File.{byte, short, name, count, fieldsIn, oneIn, argumentsIn, signatureIn, namesIn, mapIn, mapsFrom, mapsIn, methodsIn, ends, sameField, sameMethod, readFile}
+use Rattle.definition.specs.Instructions.{pick, opcodeOf, inlineLength, shortAt, extend, instructionOf, sizedAs, decode}
+use Rattle.definition.specs.Verifier.{typeOfName, meetClass, meetInt, meets, meetKind, pop, popAll, effect, returns, returnKind, target, goesOn, mapAt, localType, meetLocal, meetAll, meetMap, flowInto, flowToTarget, startAt, after, mapsPast, verify, typesAt, unmappedFrom, unmapped, notesOfMethod, notesOf}
+use Rattle.definition.specs.Verifier as Verifier
+use Rattle.definition.specs.Machine.{Object, Objects, free, owned, objectHeld, existing, inUse, unused, made, roomless, shareUsed, madeBy, rewritten, changed, initialValue, newObject, pop!, popAll!, int!, reference!, ofKind!, kind!, kinds!, compute, jumps, room!, object!, now, under!, give, execute, step}
+use Rattle.definition.specs.Sweeping.{named, roots, linksFrom, reached, sweptFrom, freedFrom}
+use Rattle.layout.specs.Tests.{All}
+use Rattle.definition.specs.Computing.OnRows.{settle, onRows, runRows, performRows, performAllRows}
+use Rattle.definition.specs.Computing.Samples.{two, method, fileOf, plain, taker, lifts}
+use Rattle.layout.specs.Tests.{every-true}
+use Rattle.unbroken.specs.OnRows.{Shows, same-perform, same-booted}
+use Rattle.unbroken.specs.Unbroken.{kept-unbroken}
+use Rattle.first.specs.SameObjects.{SameObjects, noObjects, sameObject}
+use Rattle.first.specs.SameRows as SameRows
+use Rattle.first.specs.SameRows.{SameRows, BringsNone, todayRow}
+use Rattle.first.specs.Carries.{Carries, carrying, same-shaped, same-broken, same-store, unbroken-keeps-none}
+use Rattle.first.specs.SameCalls.{SameDone, same-boot, same-rows-call, same-step-tables}
+use Rattle.first.specs.KeepsNone.{keeps-early, booted-early}
+use Rattle.first.specs.Changeover.{carriedRows, carried-rows, carried-whole, fresh-share}
+use Rattle.cases.specs.Changeover.{OldMove, asks, steps, oldAfter, calling, halfMoves, halfRun, onHalf, changes, Goes, changeover-cases}
+
+-- what today's rows say of old ones
+
+unfoldable pub held : Objects → List Object
+held [] = []
+held (free ∷ os) = held os
+held (owned k x ∷ os) = x ∷ held os
+
+abbrev stripped : Rows → FirstRows
+stripped q = SameRows.plain (held (q .objects)) q
+
+same-held : (os : List Object) (qs : Objects) → SameObjects os qs → os ≡ held qs
+unfolding held
+same-held os qs noObjects = refl
+same-held os qs (sameObject {k} {x} {os = os′} {qs = qs′} l h) = λ i. x ∷ same-held os′ qs′ h i
+
+same-stripped : (r : FirstRows) (q : Rows) → SameRows r q → r ≡ stripped q
+same-stripped r q s = s .rest ∙ ap (λ (os : List Object). SameRows.plain os q) (same-held (r .objects) (q .objects) (s .objects))
+
+-- old tables that show rows
+pub record OldShows (v : FirstTables) (r : FirstRows) : Type 0 where
+  pub sound : firstBroken v ≡ false
+  pub rows : firstView v ≡ r
+
+abbrev pub callOf : OldMove → FirstCall
+callOf (asks c) = firstCallRows c
+callOf steps = firstCallStep
+
+abbrev todayOf : OldMove → Call
+todayOf (asks c) = callRows (todayRow c)
+todayOf steps = callStep
+
+-- carried afresh, today's machine moves the rows as the old one does
+abbrev moved : OldMove → FirstRows → FirstRows
+moved m r = stripped (performRows (todayOf m) (carriedRows r) .rows)
+
+shown-after : (m : OldMove) (v : FirstTables) (r : FirstRows) → OldShows v r → Carries (firstPerform (callOf m) v .tables) (perform (todayOf m) (carry v) .tables) → OldShows (firstPerform (callOf m) v .tables) (moved m r)
+shown-after m v r s k =
+    let w = carried-whole v (s .sound) .0 in
+    let x = keeps-early (callOf m) v (unbroken-keeps-none v (s .sound)) in
+    let sound : firstBroken (firstPerform (callOf m) v .tables) ≡ false = same-broken _ _ k x ∙ kept-unbroken (todayOf m) (carry v) w in
+    let shown : Shows (carry v) (carriedRows r) = record { unbroken = w; rows = carried-rows v (s .sound) ∙ ap carriedRows (s .rows) } in
+    let after = same-perform (todayOf m) (carry v) (carriedRows r) shown .1 .rows in
+    record { sound = sound; rows = same-stripped _ _ (same-store _ _ (k .fronts) x sound .rows) ∙ ap stripped after }
+
+-- the old machine's word for a call on rows
+unfoldable pub wordIn : Result (FirstGiven FirstReply) → ℕ
+wordIn (refused w) = number w
+wordIn (ok g) = numberOf (g .answer)
+
+old-word : (c : FirstRowCall) (v : FirstTables) (r : FirstRows) → OldShows v r → numberOf (firstPerform (firstCallRows c) v .answer) ≡ wordIn (firstOnRowCall c r)
+unfolding firstPerform firstWrap
+old-word c v r s = rw (s .sound, firstWrap) (go (firstOnRowCall c (firstView v)) ∙ ap (λ (z : FirstRows). wordIn (firstOnRowCall c z)) (s .rows))
+  where
+    go : (o : Result (FirstGiven FirstReply)) → numberOf (firstCarried Denied v o .answer) ≡ wordIn o
+    go (refused w) = unfold firstCarried wordIn numberOf in refl
+    go (ok g) = unfold firstCarried wordIn in refl
+
+-- a call that brings no later file and isn't answered with 8
+abbrev Allowed : OldMove → FirstRows → Type 0
+Allowed (asks c) r = BringsNone c × (eqb (wordIn (firstOnRowCall c r)) 8 ≡ false)
+Allowed steps r = Unit {0}
+
+move-shown : (m : OldMove) (v : FirstTables) (r : FirstRows) → OldShows v r → Allowed m r → OldShows (firstPerform (callOf m) v .tables) (moved m r)
+unfolding firstPerform perform numberOf
+move-shown (asks c) v r s a =
+    shown-after (asks c) v r s (elim (same-rows-call c (a .0) v (carry v) (carrying v) (unbroken-keeps-none v (s .sound)) (λ n. eqb-false _ _ (a .1) (sym (old-word c v r s) ∙ n))) [
+      | inl d ↦ d .tables
+      | inr z ↦ absurd (fresh-share v (s .sound) (callRows (todayRow c)) z)
+    ])
+move-shown steps v r s a =
+    shown-after steps v r s (elim (same-step-tables v (carry v) (carrying v) (unbroken-keeps-none v (s .sound))) [
+      | inl d ↦ d .tables
+      | inr z ↦ absurd (fresh-share v (s .sound) callStep z)
+    ])
