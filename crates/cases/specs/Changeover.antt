@@ -156,21 +156,25 @@ tail (x ∷ xs) = xs
 third : List (List ℕ) → List ℕ
 third xs = head [] (tail (tail xs))
 
+-- by what is computed of the rows that the old tables show
+pub goes-on : (u : FirstTables) (t : Tables) (r : FirstRows) → firstBroken u ≡ false → firstView u ≡ r → shaped t ≡ true → (c : ChangeCase) → marksOf (carriedRows r) ≡ marks c
+    → performAllRows (c .calls) (carriedRows r) .answer ≡ c .replies → Goes u t c
+unfolding marksOf marks third head tail
+goes-on u t r b e n c m a =
+    let f = filled-changeover u t n b in
+    let left = changeover-filled u t f .left in
+    let shown : Shows (changeover u t .tables) (carriedRows r) = record { unbroken = rw left (carried-whole u b .0); rows = ap view left ∙ (carried-rows u b ∙ ap carriedRows e) } in
+    let marked : marksOf (view (changeover u t .tables)) ≡ marks c = ap marksOf (shown .rows) ∙ m in
+    record {
+      accepted = f;
+      marked = marked;
+      grouped = groups-right (changeover u t .tables) (shown .unbroken) ∙ ap third marked;
+      answered = same-all (c .calls) (changeover u t .tables) (carriedRows r) shown .0 ∙ a;
+    }
+
 module _ (u : FirstTables) (t : Tables) (s : firstShaped u ≡ true) (w : firstWithin (u .counts) ≡ true) (n : shaped t ≡ true) where
   goes : (c : ChangeCase) → firstSound (c .old) ≡ true → marksOf (carriedRows (c .old)) ≡ marks c → performAllRows (c .calls) (carriedRows (c .old)) .answer ≡ c .replies → firstView u ≡ c .old → Goes u t c
-  unfolding marksOf marks third head tail
-  goes c h m a e =
-      let b : firstBroken u ≡ false = unbroken-is u s w (c .old) e true h in
-      let f = filled-changeover u t n b in
-      let left = changeover-filled u t f .left in
-      let shown : Shows (changeover u t .tables) (carriedRows (c .old)) = record { unbroken = rw left (carried-whole u b .0); rows = ap view left ∙ (carried-rows u b ∙ ap carriedRows e) } in
-      let marked : marksOf (view (changeover u t .tables)) ≡ marks c = ap marksOf (shown .rows) ∙ m in
-      record {
-        accepted = f;
-        marked = marked;
-        grouped = groups-right (changeover u t .tables) (shown .unbroken) ∙ ap third marked;
-        answered = same-all (c .calls) (changeover u t .tables) (carriedRows (c .old)) shown .0 ∙ a;
-      }
+  goes c h m a e = goes-on u t (c .old) (unbroken-is u s w (c .old) e true h) e n c m a
 
   stays : (r : FirstRows) → firstSound r ≡ false → firstView u ≡ r → (changeover u t .answer ≡ Denied (Word 1)) × (changeover u t .tables ≡ t)
   stays r h e = let x = refused-changeover u t (inr (unbroken-is u s w r e false h)) in (x .answers, x .left)
