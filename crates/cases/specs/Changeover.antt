@@ -1,10 +1,9 @@
 -- Changing over while quoting, paper 12: old tables that show these rows are carried over, and this is what the new ones then say and answer, whatever they held.
-use mathlib.Core.Path.{_≡_, refl, sym, ap, _∙_}
+use mathlib.Core.Path.{_≡_, refl, ap, _∙_}
 use mathlib.Core.Bool.{Bool, true, false, not}
 use mathlib.Core.List.{List, [], _∷_, _++_, map}
 use mathlib.Core.Logic.{inr}
-use Prim.Native.Nat.{ℕ, zero, suc}
-use lib.ListN.{length}
+use Prim.Native.Nat.{ℕ}
 use Rattle.definition.specs.declared.Refusal.the-variants.{Word}
 use Rattle.definition.specs.declared.Answer.the-variants.{Idle, Ran, Finished}
 use Rattle.definition.specs.declared.Reply.{Reply}
@@ -12,10 +11,10 @@ use Rattle.definition.specs.declared.Reply.the-variants.{Accepted, Stepped, Den
 use Rattle.definition.specs.Answers.{number, numberOfStep, numberOf, Result, refused, ok, _>>=_, need, take?}
 use Rattle.definition.specs.Groups.{numbersOfTies, lesser, lowest, groupOf, cellOf, groupsOf}
 use Rattle.definition.specs.Loading.{subtypeIs, newSubtypes, overrideTie, overrideTies, define, recorded, started}
-use Rattle.definition.specs.Tables.{Tables, shaped, Rows, classRow, entry, ownerOf, cutTo, view, fileAt, classAt, sizeOf}
+use Rattle.definition.specs.Tables.{Tables, shaped, Rows, classRow, entry, ownerOf, cutTo, view, fileAt, classAt}
 use Rattle.definition.specs.Broken.{isObject, entryFits, tieFits, subtypeFits, groupsIn}
-use Rattle.definition.specs.Calls.{numberedOn, Call, callBoot, callStep, callTakeBack, Done, done, performAll, tryRows, triedWith, takenBack, turn, turnOf, defineRows, entryTrace, recordRows, startRows, dropRows, sweepRows, answerOf, stepTask, stepOn, stepRows}
-use Rattle.definition.specs.Changeover.{carry, changeover}
+use Rattle.definition.specs.Calls.{numberedOn, Call, callBoot, callStep, callTakeBack, performAll, tryRows, triedWith, takenBack, turn, turnOf, defineRows, entryTrace, recordRows, startRows, dropRows, sweepRows, answerOf, stepTask, stepOn, stepRows}
+use Rattle.definition.specs.Changeover.{changeover}
 use Rattle.definition.specs.Computing.Samples.{two, method, fileOf, plain, taker, lifts}
 use Rattle.definition.specs.First.Signatures.{firstArgument, firstIsNamed, firstSameSignature, firstAlike, firstHasMethod, firstSelected, firstSignatureTies, firstOverrideTie, firstOverrideTies}
 use Rattle.definition.specs.First.Files.{firstSignatureIn, firstMethodsIn, firstSameMethod, firstReadFile, firstOpcodeOf, firstInlineLength, firstDecode}

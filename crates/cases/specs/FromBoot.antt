@@ -1,30 +1,27 @@
 -- The first case of a changeover from a boot: the old machine's calls, on any tables that its boot accepts, lead to an old store that shows those rows.
-use mathlib.Core.Path.{_≡_, refl, sym, ap, _∙_, subst}
+use mathlib.Core.Path.{_≡_, refl, sym, ap, _∙_}
 use mathlib.Core.Bool.{Bool, true, false, not, _&&_, false≢true}
-use mathlib.Core.List.{List, [], _∷_, _++_, map}
-use mathlib.Core.Logic.{_⊎_, inl, inr}
+use mathlib.Core.List.{List, [], _∷_, map}
+use mathlib.Core.Logic.{inl, inr}
 use native.Mathlib.Omega.{arith}
 use lib.Dec.{eqb}
-use borrow.Author.Tests.{eqb-false, not-false}
-use Prim.Native.Nat.{ℕ, zero, suc}
-use lib.ListN.{length}
+use borrow.Author.Tests.{eqb-false}
+use Prim.Native.Nat.{ℕ}
 use Rattle.definition.specs.declared.Refusal.the-variants.{Word}
-use Rattle.definition.specs.declared.Answer.the-variants.{Idle, Ran, Finished}
-use Rattle.definition.specs.declared.Reply.{Reply}
-use Rattle.definition.specs.declared.Reply.the-variants.{Accepted, Stepped, Denied}
+use Rattle.definition.specs.declared.Reply.the-variants.{Accepted, Denied}
 use Rattle.definition.specs.Answers.{number, numberOfStep, numberOf, Result, refused, ok, _>>=_, need, take?}
 use Rattle.definition.specs.Groups.{numbersOfTies, lesser, lowest, groupOf, cellOf, groupsOf}
 use Rattle.definition.specs.Loading.{subtypeIs, newSubtypes, overrideTie, overrideTies, define, recorded, started}
-use Rattle.definition.specs.Tables.{Tables, shaped, Rows, classRow, entry, ownerOf, cutTo, view, fileAt, classAt, sizeOf}
-use Rattle.definition.specs.Broken.{isObject, entryFits, tieFits, subtypeFits, groupsIn}
-use Rattle.definition.specs.Calls.{numberedOn, bootRows, boot, Call, callBoot, callRows, callStep, perform, callTakeBack, Done, done, performAll, tryRows, triedWith, takenBack, turn, turnOf, defineRows, entryTrace, recordRows, startRows, dropRows, sweepRows, answerOf, stepTask, stepOn, stepRows}
-use Rattle.definition.specs.Changeover.{carry, changeover, laterFile, bringsLater}
+use Rattle.definition.specs.Tables.{Tables, shaped, Rows, ownerOf, cutTo, fileAt, classAt}
+use Rattle.definition.specs.Broken.{isObject, entryFits, tieFits, subtypeFits}
+use Rattle.definition.specs.Calls.{numberedOn, bootRows, boot, Call, callRows, callStep, perform, Done, done, performAll, tryRows, triedWith, takenBack, turn, turnOf, defineRows, entryTrace, recordRows, startRows, dropRows, sweepRows, answerOf, stepTask, stepOn, stepRows}
+use Rattle.definition.specs.Changeover.{carry, laterFile, bringsLater}
 use Rattle.definition.specs.First.Signatures.{firstArgument, firstIsNamed, firstSameSignature, firstAlike, firstHasMethod, firstSelected, firstSignatureTies, firstOverrideTie, firstOverrideTies}
 use Rattle.definition.specs.First.Files.{firstSignatureIn, firstMethodsIn, firstSameMethod, firstReadFile, firstOpcodeOf, firstInlineLength, firstDecode}
 use Rattle.definition.specs.First.Verifier.{firstEffect, firstVerify, firstTypesAt, firstNotesOfMethod, firstNotesOf, firstHides, firstDefine}
 use Rattle.definition.specs.First.Machine.{firstExisting, firstObject!, firstCompute, firstNow, firstGive, firstExecute, firstStep, firstStarted}
-use Rattle.definition.specs.First.Tables.{FirstTables, FirstRows, firstRowsOf, firstNoRows, firstShaped, firstPut, firstFileAt, firstClassAt, firstView}
-use Rattle.definition.specs.First.Broken.{firstClassFits, firstClassesFit, firstValueFits, firstLocalFits, firstObjectFits, firstFrameFits, firstSound, firstWithin, firstWhole, firstBroken}
+use Rattle.definition.specs.First.Tables.{FirstTables, FirstRows, firstShaped, firstPut, firstFileAt, firstClassAt, firstView}
+use Rattle.definition.specs.First.Broken.{firstClassFits, firstClassesFit, firstValueFits, firstLocalFits, firstObjectFits, firstFrameFits, firstSound, firstBroken}
 use Rattle.definition.specs.First.Calls.{FirstReply, FirstCall, firstCallRows, firstCallStep, firstCarried, firstWrap, firstBoot, firstPerform, firstPerformAll, FirstGiven, firstBootRows, FirstRowCall, firstRowDefine, firstRowRecord, firstRowStart, firstRowDrop, firstOnRowCall, firstDefineRows, firstRecordRows, firstStartRows, firstDropRows, firstStepTask, firstStepOn, firstStepRows}
 use Rattle.definition.specs.Lists.{every, all, allFrom, any, isSome, doubled, indexOf, isNone, toList, sameList, filled, rows}
 use Rattle.definition.specs.Maybe as Maybe
@@ -39,17 +36,15 @@ use Rattle.definition.specs.Verifier.{typeOfName, meetClass, meetInt, meets, me
 use Rattle.definition.specs.Verifier as Verifier
 use Rattle.definition.specs.Machine.{Object, Objects, free, owned, objectHeld, existing, inUse, unused, made, roomless, shareUsed, madeBy, rewritten, changed, initialValue, newObject, pop!, popAll!, int!, reference!, ofKind!, kind!, kinds!, compute, jumps, room!, object!, now, under!, give, execute, step}
 use Rattle.definition.specs.Sweeping.{named, roots, linksFrom, reached, sweptFrom, freedFrom}
-use Rattle.layout.specs.Tests.{All}
 use Rattle.definition.specs.Computing.OnRows.{settle, onRows, runRows, performRows, performAllRows}
 use Rattle.definition.specs.Computing.Samples.{two, method, fileOf, plain, taker, lifts}
-use Rattle.layout.specs.Tests.{every-true}
 use Rattle.unbroken.specs.OnRows.{Shows, same-perform, same-booted}
 use Rattle.unbroken.specs.Unbroken.{kept-unbroken}
 use Rattle.first.specs.SameObjects.{SameObjects, noObjects, sameObject}
 use Rattle.first.specs.SameRows as SameRows
 use Rattle.first.specs.SameRows.{SameRows, BringsNone, todayRow}
 use Rattle.first.specs.Carries.{Carries, carrying, same-shaped, same-broken, same-store, unbroken-keeps-none}
-use Rattle.first.specs.SameCalls.{SameDone, same-boot, same-rows-call, same-step-tables}
+use Rattle.first.specs.SameCalls.{same-boot, same-rows-call, same-step-tables}
 use Rattle.first.specs.KeepsNone.{keeps-early, booted-early}
 use Rattle.first.specs.Changeover.{carriedRows, carried-rows, carried-whole, fresh-share}
 use Rattle.cases.specs.Changeover.{OldMove, asks, steps, oldAfter, calling, halfMoves, halfRun, onHalf, marksOf, marks, Goes, goes-on}

@@ -14,7 +14,7 @@ use Rattle.definition.specs.Lists.{every, any, filled, rows, stack}
 use Rattle.definition.specs.Groups.{groupsOf}
 use Rattle.definition.specs.Machine.{madeBy}
 use Rattle.definition.specs.Classes.{Base}
-use Rattle.definition.specs.Tables.{Tables, tables, rowNumbers, numberAt, numbersOf, shaped, baseOf, classRowAt, entryAt, tieAt, subtypeAt, objectAt, ownedBy, ownerAt, objectRowAt, frameIn, classRowsOf, keptOf, cacheOf, tiesOf, viewBase, objectsOf, framesOf, viewOver, view}
+use Rattle.definition.specs.Tables.{Tables, rowNumbers, numberAt, numbersOf, shaped, baseOf, classRowAt, entryAt, tieAt, subtypeAt, objectAt, ownedBy, ownerAt, objectRowAt, frameIn, classRowsOf, keptOf, cacheOf, tiesOf, viewBase, objectsOf, framesOf, viewOver, view}
 use Rattle.definition.specs.Broken.{within, inTurn, numbered, traceFits, grouped, whole, broken}
 use Rattle.definition.specs.Calls.{numbersFrom}
 use Rattle.laws.specs.Arguments.{filled-length}

@@ -2,30 +2,29 @@
 -- which what came later is involved.
 use mathlib.Core.Path.{_≡_, refl, sym, ap, _∙_, subst}
 use mathlib.Core.Bool.{Bool, true, false, not, _&&_, _||_, false≢true}
-use mathlib.Core.Option.{Option, none, some, Option·none-ne-some, Option·some-injective}
+use mathlib.Core.Option.{none, some, Option·none-ne-some, Option·some-injective}
 use mathlib.Core.List.{List, [], _∷_, _++_, map}
 use mathlib.Core.Logic.{_⊎_, inl, inr}
 use Prim.Native.Nat.{ℕ, zero, suc, _<_, _≤_}
 use native.Mathlib.Omega.{arith}
 use lib.ListN.{length, getD, take, replicate, length-replicate, getD-replicate, List·getD-append}
 use lib.Seq.{getD-append-add, take-append-seam}
-use lib.Dec.{eqb}
 use borrow.Author.Tests.{eqb-false, leb-true, not-false}
 use Rattle.definition.specs.declared.Reply.{Reply}
 use Rattle.definition.specs.declared.Reply.the-variants.{Accepted, Denied}
 use Rattle.definition.specs.declared.Refusal.the-variants.{Word}
-use Rattle.definition.specs.Numbers.{wordBroken, wordHidden, wordShare, wordLate, objectLimit, ownersCell, tieLimit, subtypeLimit, countTies, countSubtypes, countObjects, loadsCell}
+use Rattle.definition.specs.Numbers.{wordBroken, wordShare, wordLate, objectLimit, ownersCell, tieLimit, subtypeLimit, countTies, countSubtypes, countObjects, loadsCell}
 use Rattle.definition.specs.Lists.{any, stack}
 use Rattle.definition.specs.Answers.{numberOf, endsIn}
 use Rattle.definition.specs.Groups.{groupsOf}
 use Rattle.definition.specs.Machine.{Object, owned, Objects, madeBy}
 use Rattle.definition.specs.Tables.{Tables, shaped, tieAt, subtypeAt, keptOf, classRowsOf, RowNumbers, rowNumbers, ownerAt, viewBase, objectsOf, Rows, rowsOf, view, viewOver}
 use Rattle.definition.specs.Broken.{broken, groupsIn}
-use Rattle.definition.specs.Calls.{numbersFrom, RowCall, rowDefine, rowRecord, rowStart, rowDrop, rowSweep, rowTry, rowTakeBack, Call, callBoot, callRows, callStep, callRun, callTakeBack, Done, done, perform}
+use Rattle.definition.specs.Calls.{numbersFrom, rowDefine, rowRecord, rowStart, rowDrop, rowSweep, rowTry, rowTakeBack, Call, callBoot, callRows, callStep, callRun, callTakeBack, Done, done, perform}
 use Rattle.definition.specs.Changeover.{withCounts, tiesFirst, groupsFirst, carry, changeover, firstRowCallOf, firstCallOf, bringsLater, involved, AnswersAsBefore}
 use Rattle.definition.specs.First.Tables.{FirstTables, FirstRows, firstViewOver, firstView}
 use Rattle.definition.specs.First.Broken.{firstBroken, firstWithin, firstWhole}
-use Rattle.definition.specs.First.Calls.{FirstReply, FirstRowCall, firstRowDefine, firstRowRecord, firstRowStart, firstRowDrop, FirstCall, firstCallBoot, firstCallRows, firstCallStep, firstCallRun, firstPerform}
+use Rattle.definition.specs.First.Calls.{FirstReply, firstRowDefine, firstRowRecord, firstRowStart, firstRowDrop, FirstCall, firstCallBoot, firstCallRows, firstCallStep, firstCallRun, firstPerform}
 use Rattle.layout.specs.Places.{rows-length}
 use Rattle.layout.specs.Tests.{All, every-true}
 use Rattle.unbroken.specs.Groups.{groups-right}
@@ -34,7 +33,7 @@ use Rattle.unbroken.specs.TakenBack.{taken-late}
 use Rattle.unbroken.specs.Unbroken.{kept-unbroken}
 use Rattle.first.specs.SameObjects.{SameObjects, noObjects, sameObject}
 use Rattle.first.specs.SameBases.{laterRow}
-use Rattle.first.specs.SameRows.{plain, SameRows, todayRow}
+use Rattle.first.specs.SameRows.{plain, SameRows}
 use Rattle.first.specs.Carries.{Carries, EarlyTables, carrying, keepsLater, keeps-none, unbroken-keeps-none, eight-counts, tie-numbers, subtype-numbers, no-loads, none-made, same-broken, same-store}
 use Rattle.first.specs.SameCalls.{Unhidden}
 use Rattle.first.specs.KeepsNone.{keeps-early}

@@ -14,6 +14,8 @@
 -- (definition/First); a signature of a version 1 file has a list of one, and with that today's machine does the same.
 -- 8, room kept for quotes: `Carries` forgets whose an object is. A call that today's machine answers with 18, and a run that ends in it, are involved: the first document's report had no share.
 -- In a list that starts no report, where the report has no frame, none is (`unshared-quotes`).
+-- 10, taking back a load, and 11, groups: `Carries` forgets the trace and the groups, which are some that aren't broken. Neither answers a call of the first document, so none is involved.
+-- 12, changing over: the first document's machine stands among the definitions, and its tables are carried by `carry` (Changeover).
 use mathlib.Core.Path.{_≡_, refl, ap}
 use mathlib.Core.Bool.{Bool, true, false}
 use mathlib.Core.List.{List, [], _∷_, map}

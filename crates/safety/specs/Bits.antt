@@ -18,7 +18,7 @@ use Rattle.definition.specs.Changeover.{noTrace, tiesFirst, groupsFirst, carry,
 use Rattle.definition.specs.First.Tables.{FirstTables}
 use Rattle.definition.specs.First.Broken.{firstBroken}
 use Rattle.definition.specs.First.Calls.{FirstComesFromBoot}
-use Rattle.definition.specs.Histories.{ComesFromBoot, afterChangeover}
+use Rattle.definition.specs.Histories.{afterChangeover}
 use Rattle.definition.specs.Widths.{EachBelow, Widths, Fitting}
 use Rattle.definition.specs.Safety.{Safe}
 use Rattle.laws.specs.Groups.{group-lowest}
@@ -27,7 +27,7 @@ use Rattle.layout.specs.Places.{rows-all}
 use Rattle.layout.specs.Tests.{All}
 use Rattle.widths.specs.Below.{below-both}
 use Rattle.widths.specs.Widths.{widths-all}
-use Rattle.first.specs.Changeover.{Within, unbroken-within, changeover-filled}
+use Rattle.first.specs.Changeover.{unbroken-within, changeover-filled}
 use Rattle.safety.specs.Safety.{safety, safe-from-boot}
 
 pub safe-in-width : (t : Tables) → Widths t → boot t .answer ≡ Accepted → (cs : List Call) → All Fitting cs

@@ -8,9 +8,7 @@ use Prim.Native.Nat.{ℕ}
 use native.Mathlib.Omega.{arith}
 use lib.Dec.{leb}
 use Rattle.definition.specs.declared.Refusal.the-variants.{Word}
-use Rattle.definition.specs.declared.Answer.{Answer}
 use Rattle.definition.specs.declared.Answer.the-variants.{Idle}
-use Rattle.definition.specs.declared.Reply.{Reply}
 use Rattle.definition.specs.declared.Reply.the-variants.{Accepted, Denied}
 use Rattle.definition.specs.Answers.{numberOf, numberOfStep, Result, refused, ok}
 use Rattle.definition.specs.Constraints.{World}
@@ -18,7 +16,6 @@ use Rattle.definition.specs.Classes.{loaderOf, slots}
 use Rattle.definition.specs.Verifier.{typeOfName}
 use Rattle.definition.specs.Machine.{Frame, Objects, existing}
 use Rattle.definition.specs.Tables.{Tables, Level, Rows, baseOf, view}
-use Rattle.definition.specs.Broken.{broken}
 use Rattle.definition.specs.Calls.{Done, done, runFrom, stepTables, callRows, callStep, perform}
 use Rattle.definition.specs.Changeover.{carry, changeover}
 use Rattle.definition.specs.First.Tables.{FirstTables, FirstRows, firstShaped, firstView, firstPut}
@@ -38,7 +35,7 @@ use Rattle.first.specs.Carries.{Carries, EarlyTables, carrying, same-shaped, sa
 use Rattle.first.specs.SameCalls.{SameDone, same-boot, same-step-tables, same-rows-call, step-early}
 use Rattle.first.specs.KeepsNone.{keeps-early, booted-early}
 use Rattle.first.specs.Changeover.{changeover-filled, carried-trace, fresh-share}
-use Rattle.safety.specs.Store.{Store, storeOf}
+use Rattle.safety.specs.Store.{Store}
 use Rattle.safety.specs.Valid.{Later, later-conforms, later-stack}
 use Rattle.safety.specs.Later.{later-same}
 use Rattle.safety.specs.Safe.{Valid}
