@@ -8,7 +8,7 @@ use Rattle.definition.specs.declared.Reply.the-variants.{Accepted}
 use Rattle.definition.specs.Groups.{numbersOfTies, lesser, lowest, groupOf, cellOf, groupsOf}
 use Rattle.definition.specs.Tables.{Tables, Rows, tie, cutTo, view, fileAt, classAt}
 use Rattle.definition.specs.Broken.{groupsIn, grouped, broken}
-use Rattle.definition.specs.Calls.{boot, Call, callDefine, callRecord, callTakeBack, bootRows, numberedOn, performAll, tryRows, triedWith, takenBack, turn, turnOf, defineRows, entryTrace, recordRows, startRows, dropRows, sweepRows, answerOf, stepTask, stepOn, stepRows}
+use Rattle.definition.specs.Calls.{boot, Call, callDefine, callRecord, callStart, callStep, callTakeBack, bootRows, numberedOn, performAll, tryRows, triedWith, takenBack, turn, turnOf, defineRows, entryTrace, recordRows, startRows, dropRows, sweepRows, answerOf, stepTask, stepOn, stepRows}
 use Rattle.definition.specs.Answers.{number, numberOfStep, numberOf, _>>=_, need, take?}
 use Rattle.layout.specs.Tests.{All}
 use Rattle.unbroken.specs.OnRows.{accepted-shaped, same-booted}
@@ -139,6 +139,10 @@ apart = ready ++ callRecord 4 2 0 ∷ callDefine 1 (taker 40 2) ∷ callRecord 2
 unfoldable pub joining : Call
 joining = callDefine 3 (taker 45 41)
 
+-- loader 4 calls the method of loader 2's class, with null for its 12: the third step ties 4 and 2
+unfoldable pub calling : List Call
+calling = callRecord 4 41 2 ∷ callDefine 4 (fileOf 46 2 1 (method 20 1 1 ((0xBB ∷ two 41) ++ (0x01 ∷ 0xB6 ∷ two 41) ++ two 30 ++ two 12 ++ two 1 ++ (0xAC ∷ [])))) ∷ callStart 0 4 46 20 7 ∷ callStep ∷ callStep ∷ []
+
 unfoldable pub groupCalls : List CallsCase
 groupCalls =
     leaves ready []
@@ -151,10 +155,13 @@ groupCalls =
     ∷ leaves (apart ++ joining ∷ []) (0 ∷ 0 ∷ 0 ∷ [])
     ∷ leaves (apart ++ joining ∷ callTakeBack ∷ []) (0 ∷ 1 ∷ [])
     ∷ leaves (apart ++ joining ∷ callTakeBack ∷ joining ∷ []) (0 ∷ 0 ∷ 0 ∷ [])
+    -- a step joins them
+    ∷ leaves (apart ++ calling) (0 ∷ 1 ∷ [])
+    ∷ leaves (apart ++ calling ++ callStep ∷ []) (0 ∷ 0 ∷ 0 ∷ [])
     ∷ []
 
 computed : map (λ c. groupsOf (performAllRows (c .calls) bootRows .rows .ties) (performAllRows (c .calls) bootRows .rows .numbers .ties)) groupCalls ≡ map (λ c. c .groups) groupCalls
-unfolding groupCalls apart joining lifts numberedOn numbersOfTies lesser lowest groupOf cellOf groupsOf recorded number numberOfStep numberOf _>>=_ need take? defineRows entryTrace recordRows startRows dropRows answerOf stepTask stepOn stepRows turnOf turn find lower superOf loaderOf ownSlots slotsIn slots slotIs hasField sameSignature alike methodsOf hasMethod selected tieEdges subtypeEdges edges pairAgrees rowAgrees agreesOver agrees tieIs newTie newTies signatureTies agreesAfter post byte short name count fieldsIn oneIn argumentsIn signatureIn namesIn mapIn mapsFrom mapsIn methodsIn ends sameField sameMethod readFile pick opcodeOf inlineLength shortAt extend instructionOf sizedAs decode every all any doubled indexOf isNone toList sameList filled subtypeIs newSubtypes overrideTie overrideTies define started existing initialValue newObject pop! popAll! int! reference! kind! kinds! room! object! now under! give execute step Maybe._>>=_ Maybe.need sameRequest has fires rest grow reachFrom reach leads seek nearest below fileAt classAt typeOfName meetClass meetInt meets pop popAll isNamed effect returns target goesOn mapAt localType meetLocal meetAll meetMap flowInto flowToTarget startAt after Verifier.turn mapsPast verify typesAt unmappedFrom unmapped notesOf settle onRows runRows performRows performAllRows two method fileOf plain taker ready tied12 tied123 ofKind! compute jumps meetKind returnKind notesOfMethod unused made roomless shareUsed madeBy rewritten changed objectHeld inUse named roots linksFrom reached sweptFrom freedFrom sweepRows fileF takenBack cutTo tryRows triedWith rows coded
+unfolding groupCalls apart calling joining lifts numberedOn numbersOfTies lesser lowest groupOf cellOf groupsOf recorded number numberOfStep numberOf _>>=_ need take? defineRows entryTrace recordRows startRows dropRows answerOf stepTask stepOn stepRows turnOf turn find lower superOf loaderOf ownSlots slotsIn slots slotIs hasField sameSignature alike methodsOf hasMethod selected tieEdges subtypeEdges edges pairAgrees rowAgrees agreesOver agrees tieIs newTie newTies signatureTies agreesAfter post byte short name count fieldsIn oneIn argumentsIn signatureIn namesIn mapIn mapsFrom mapsIn methodsIn ends sameField sameMethod readFile pick opcodeOf inlineLength shortAt extend instructionOf sizedAs decode every all any doubled indexOf isNone toList sameList filled subtypeIs newSubtypes overrideTie overrideTies define started existing initialValue newObject pop! popAll! int! reference! kind! kinds! room! object! now under! give execute step Maybe._>>=_ Maybe.need sameRequest has fires rest grow reachFrom reach leads seek nearest below fileAt classAt typeOfName meetClass meetInt meets pop popAll isNamed effect returns target goesOn mapAt localType meetLocal meetAll meetMap flowInto flowToTarget startAt after Verifier.turn mapsPast verify typesAt unmappedFrom unmapped notesOf settle onRows runRows performRows performAllRows two method fileOf plain taker ready tied12 tied123 ofKind! compute jumps meetKind returnKind notesOfMethod unused made roomless shareUsed madeBy rewritten changed objectHeld inUse named roots linksFrom reached sweptFrom freedFrom sweepRows fileF takenBack cutTo tryRows triedWith rows coded
 computed = refl
 
 pub groups-left : (t : Tables) → boot t .answer ≡ Accepted → map (λ c. groupsIn (performAll (c .calls) (boot t .tables) .tables)) groupCalls ≡ map (λ c. c .groups) groupCalls
