@@ -13,7 +13,7 @@ PKGCONFIGDIR = $(LIBDIR)/pkgconfig
 INSTALL = install
 
 made = target/install
-docs = docs/HOST.md docs/JAVA.md docs/LESSONS.md docs/STORE.md examples/quote.c
+docs = docs/COURSE.md docs/HOST.md docs/JAVA.md docs/LESSONS.md docs/STORE.md examples/quote.c
 papers = $(shell sed -n 's/^.define TARIFF_PAPERS //p' include/tariff.h)
 
 all:

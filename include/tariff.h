@@ -1,4 +1,4 @@
-/* The tariff class machine for programs in C: ten calls on a store that the program owns. docs/HOST.md tells how to build and link.
+/* The tariff class machine for programs in C: eleven calls on a store that the program owns. docs/HOST.md tells how to build and link.
 
    A store is eight tables (docs/STORE.md). Every call is lent all eight, each as a pointer and its number of cells, then takes its
    own arguments, then a table for the answer. It returns 0 if it is accepted, else the number of its refusal. A refused call changes
@@ -15,8 +15,8 @@
 
 /* The version: how many change papers the machine has taken up, the number of the store's layout (docs/STORE.md, 'Layouts'), and the
    toolchain that proved it. A store that was saved under another layout is no store of this machine. */
-#define TARIFF_PAPERS 9
-#define TARIFF_LAYOUT 3
+#define TARIFF_PAPERS 10
+#define TARIFF_LAYOUT 4
 #define TARIFF_TOOLCHAIN "rattle-kit-5b-plain logic 097e4c862dff5811"
 
 #define TARIFF_TEXT_(number) #number
@@ -42,7 +42,8 @@ enum {
     TARIFF_LIST = 512       /* of the list that a try is lent, the least */
 };
 
-/* A store in one piece, 70,032 bytes. A program may as well keep its tables apart. */
+/* A store in one piece, 70,356 bytes: 70,354 of its tables, and two before objects that say nothing. A program may as well keep its
+   tables apart. */
 struct tariff_store {
     uint16_t counts[TARIFF_COUNTS];
     uint16_t classes[TARIFF_CLASSES];
@@ -72,7 +73,7 @@ enum tariff_cell {
 /* What a call answers. Details that are not named are 0. Of a refusal by TARIFF_WANTED, one and two are the loader and the name that
    are wanted, three the task whose step wants them, 0 if no step does; other refusals have no details. */
 enum tariff_kind {
-    TARIFF_ACCEPTED = 0,    /* boot, record, start, drop or the try of a record */
+    TARIFF_ACCEPTED = 0,    /* boot, record, start, drop, take back or the try of a record */
     TARIFF_DEFINED = 1,     /* define or its try; one: the number of the new class, of a try as it would be */
     TARIFF_STEPPED = 2,     /* step, refused or not; one: enum tariff_done; two: the task; three: of a task that finished, its int */
     TARIFF_RAN_FOR = 3,     /* run; the word and the details are those of its last step */
@@ -137,6 +138,7 @@ static inline const char *tariff_word_name(uint32_t word)
     case TARIFF_SHORT_LIST: return "short list";
     case TARIFF_ZERO_DIVISOR: return "zero divisor";
     case TARIFF_SHARE_USED: return "share used";
+    case TARIFF_TOO_LATE: return "too late";
     default: return "no such word";
     }
 }
@@ -230,8 +232,9 @@ uint8_t tariff_sweep(uint16_t *counts, size_t counts_length, const uint16_t *cla
                      const uint32_t *objects, size_t objects_length, const uint32_t *frames, size_t frames_length,
                      uint32_t *answer, size_t answer_length);
 
-/* take back: undoes the latest load that changed the store, so that classes, kept files, cache and constraints read as before it; again for
-   the last 32 of them. An accepted boot, start, drop or sweep, and a step that ran or finished, close what came before. Refusals: 1 19. */
+/* take back: undoes the latest load that changed the store, a define or a record that added an entry, so that classes, kept files, cache and
+   constraints read as before it; again for the last 32 of them. An accepted boot, start, drop or sweep, and a step that ran or finished, close
+   what came before. Refusals: 1 19. */
 uint8_t tariff_take_back(uint16_t *counts, size_t counts_length, const uint16_t *classes, size_t classes_length,
                          const uint8_t *kept, size_t kept_length, const uint16_t *cache, size_t cache_length,
                          const uint16_t *ties, size_t ties_length, const uint16_t *subtypes, size_t subtypes_length,

@@ -1,7 +1,8 @@
 /* The eleven calls from C: tables of wrong lengths, damaged stores, every word of refusal on pages that may only be read, numbers at their
    limits, answer tables of every length, a run beside its steps, objects freed and their numbers used again, the report's share, files of
    version 2, products and quotients, fields of one name in a class and above it, files of version 3 with 0 to 4 arguments, loads tried on
-   short and long lists, and the chains of those that clash; and the desk beside define. */
+   short and long lists, and the chains of those that clash, loads taken back, what closes them, and traces that nobody left; and the desk
+   beside define. */
 #define _GNU_SOURCE
 #include "host.h"
 
@@ -21,7 +22,10 @@ static void quoting(size_t size, const uint8_t *code)
     accepts("a quote", start(TARIFF_QUOTE, 1, 10, 20, 7));
 }
 
-/* One of each call, which a store with a quote under way accepts. */
+/* A load of such a store, behind its start: it can be taken back. */
+static void load_open(void) { accepts("a load that is open", record(3, 10, 1)); }
+
+/* One of each call, which a store with a quote under way accepts, a taking back where a load is open. */
 static struct call each(int name)
 {
     struct call calls[CALLS] = {
@@ -33,6 +37,7 @@ static struct call each(int name)
         run(65535),
         drop(TARIFF_QUOTE),
         sweep(),
+        take_back(),
         {.name = TRY_DEFINE},
         {.name = TRY_RECORD, .one = 2, .two = 10, .three = 1},
     };
@@ -42,7 +47,7 @@ static struct call each(int name)
     return calls[name];
 }
 
-/* Of tables full of ones boot writes the eight counts and the two rows of Object, and nothing else: no owner. */
+/* Of tables full of ones boot writes the eight counts, that of loads and the two rows of Object, and nothing else: no owner, no level. */
 static void booting(void)
 {
     for (int i = 0; i < TABLES; i++)
@@ -55,6 +60,7 @@ static void booting(void)
     put_back(&first);
     for (size_t i = 0; i < OWNERS; i++)
         set(0, i, i == 0 || i == 2 ? 1 : 0);
+    set(0, LOADS, 0);
     for (size_t i = 0; i < 3; i++) {
         set(1, i, 0);
         set(3, i, i == 1 ? 2 : 0);
@@ -66,6 +72,7 @@ static void wrong_lengths(void)
 {
     for (int name = 0; name < CALLS; name++) {
         quoting(IDENTITY);
+        load_open();
         for (int i = 0; i < TABLES; i++) {
             size_t lengths[] = {0, 1, cells[i] - 1, cells[i] + 1};
             for (int k = 0; k < 4; k++) {
@@ -328,6 +335,7 @@ static void free_rows(void)
         set(6, cell, 4294967295);
     for (size_t row = 3; row < 256; row++)
         set(0, OWNERS + row, 65535);
+    load_open();
     keep(&first);
     for (int name = 0; name < CALLS; name++) {
         struct call c = each(name);
@@ -737,6 +745,8 @@ static void mixed_chains(void)
     lend(ANSWER, 3);
     clashes("a short answer", define(2, 14, 2, 0, 0, 0, NULL), ROWS(1, 0));
     lend_all();
+    /* so that no load is left whose taking back would need the numbers as they are */
+    accepts("closed", drop(TARIFF_QUOTE));
     keep(&first);
     static const struct { size_t cell; uint32_t value; } harm[] = {
         {TIE_NUMBERS, 1}, {TIE_NUMBERS, 2}, {TIE_NUMBERS, 65535}, {SUBTYPE_NUMBERS, 0}, {SUBTYPE_NUMBERS, 2}, {SUBTYPE_NUMBERS, 65535},
@@ -1092,9 +1102,276 @@ static void trying(void)
     longest_chain();
 }
 
+/* The cell of counts at the time of an image. */
+static unsigned counted(const struct image *m, size_t cell)
+{
+    uint16_t value;
+    memcpy(&value, m->bytes[0] + room[0] - (cells[0] - cell) * 2, 2);
+    return value;
+}
+
+/* The latest load is taken back: of what it left, the first five counts and that of loads become those of that time, and no other cell. */
+static void takes_back(const char *what, const struct image *then)
+{
+    accepts(what, take_back());
+    keep(&after);
+    put_back(&before);
+    for (size_t i = 0; i < LEVEL; i++)
+        set(0, i, counted(then, i));
+    set(0, LOADS, counted(then, LOADS));
+    check(what, same(&after));
+}
+
+/* No load is left that can be taken back, however often it is asked; the pages may only be read. */
+static void too_late(const char *what)
+{
+    refuses(what, take_back(), TARIFF_TOO_LATE);
+    refuses(what, take_back(), TARIFF_TOO_LATE);
+}
+
+/* That many classes of loader 0, from this name on. */
+static void load_many(unsigned name, unsigned n)
+{
+    for (unsigned i = 0; i < n; i++)
+        defines("a load", define(0, name + i, 2, 0, 0, 0, NULL), count_at(0));
+}
+
+static void take_many(unsigned n)
+{
+    for (unsigned i = 0; i < n; i++)
+        accepts("taken back", take_back());
+}
+
+/* A class with a note and a tie, a record of it, and their numbers: given again after they were taken back. */
+static void loads_undone(void)
+{
+    accepts("boot", boot());
+    too_late("nothing was loaded");
+    tied();
+    accepts("loader 3 asks for class 10", record(3, 10, 1));
+    keep(&first);
+    for (int i = 0; i < 2; i++) {
+        defines("a note and a tie", define(3, 17, 10, 0, 12, BELOW(18, 19)), 4);
+        check("their numbers", count_at(3) == 2 && count_at(4) == 1 && count_at(SUBTYPE_NUMBERS) == 1 && count_at(TIE_NUMBERS + 1) == 2);
+        takes_back("class, kept file, entry, tie and note", &first);
+    }
+    wants("it is gone", start(TARIFF_QUOTE, 3, 17, 20, 7), 3, 17);
+    accepts("the record before it", take_back());
+    wants("its superclass is gone", define(3, 17, 10, 0, 12, ZERO), 3, 10);
+    clashes("the tie of loader 2 stands", define(2, 12, 2, 0, 0, 0, NULL), ROWS(0));
+    accepts("loader 1's 12", take_back());
+    defines("loader 2's own 12", define(2, 12, 2, 0, 0, 0, NULL), 3);
+    accepts("it", take_back());
+    accepts("the override with its tie", take_back());
+    check("no tie is left", count_at(3) == 0);
+    take_many(2 + 3);
+    too_late("up to the boot");
+    check("as the boot left it", count_at(0) == 1 && count_at(1) == 0 && count_at(2) == 1);
+}
+
+/* 32 loads are remembered; the 33rd pushes the first out. */
+static void loads_lost(void)
+{
+    accepts("boot", boot());
+    load_many(100, MOST_LOADS + 1);
+    check("32 levels", count_at(LOADS) == MOST_LOADS && count_at(TRACE) == 2 && count_at(TRACE + LEVEL * (MOST_LOADS - 1)) == MOST_LOADS + 1);
+    take_many(MOST_LOADS);
+    too_late("the 33rd");
+    check("the first stays", count_at(0) == 2 && count_at(2) == 2);
+    refuses("it is there", define(0, 100, 2, 0, 0, 0, NULL), TARIFF_TAKEN);
+    defines("another", define(0, 101, 2, 5, 0, 0, NULL), 2);
+    take_many(1);
+    too_late("the first still");
+
+    accepts("boot", boot());
+    load_many(100, MOST_LOADS);
+    take_many(5);
+    load_many(200, 5);
+    take_many(MOST_LOADS);
+    too_late("none was lost");
+    check("as the boot left it", count_at(0) == 1 && count_at(1) == 0 && count_at(2) == 1);
+}
+
+/* What closes: accepted calls that may move objects, though they move none. */
+static void closing(void)
+{
+    struct call quote = start(TARIFF_QUOTE, 1, 10, 20, 7);
+    struct call closes[] = {quote, drop(TARIFF_QUOTE), drop(TARIFF_QUOTE), drop(TARIFF_REPORT), quote, run(1), run(9), boot()};
+    ready();
+    defines("class 10", define(1, 10, 2, 5, 1, IDENTITY), 1);
+    for (size_t i = 0; i < sizeof closes / sizeof *closes; i++) {
+        load_many(100 + (unsigned)i, 1);
+        keep(&first);
+        check("accepted", performed(&closes[i]) == 0 && count_at(LOADS) == 0);
+        too_late("it closed what came before");
+        if (closes[i].name == DROP && i > 1) {
+            keep(&after);
+            put_back(&first);
+            set(0, LOADS, 0);
+            check("a drop of no frames writes the count of loads alone", same(&after));
+        }
+    }
+    quoting(IDENTITY);
+    load_many(100, 1);
+    runs("a step that runs", TARIFF_QUOTE);
+    too_late("it closed");
+    load_many(101, 1);
+    finishes("a step that finishes", TARIFF_QUOTE, 7);
+    too_late("it closed");
+    load_many(102, 1);
+    frees("a sweep that frees", 1);
+    too_late("it closed");
+    load_many(103, 1);
+    keep(&first);
+    frees("one that frees nothing", 0);
+    keep(&after);
+    put_back(&first);
+    set(0, LOADS, 0);
+    check("and writes the count of loads alone", same(&after));
+    too_late("it closed");
+    frees("a second sweep, on pages that may only be read", 0);
+    check("changes nothing", same(&after));
+}
+
+/* What doesn't close: calls that are refused, idle, tried, or change nothing. */
+static void staying_open(void)
+{
+    quoting(CODE(0x15, 1, 0xBB, 0, 30, 0x57, 0xAC));
+    runs("the int", TARIFF_QUOTE);
+    keep(&first);
+    defines("another class 10", define(2, 10, 2, 0, 0, 0, NULL), 2);
+    expect("a step that wants", step(), TARIFF_WANTED, SIX(TARIFF_STEPPED, TARIFF_WANTED, 1, 30, 0, 0));
+    expect("a run of no step", run(9), 0, SIX(TARIFF_RAN_FOR, TARIFF_WANTED, 1, 30, 0, 0));
+    refuses("a run of 0", run(0), TARIFF_UNKNOWN);
+    refuses("a second quote", start(TARIFF_QUOTE, 1, 10, 20, 7), TARIFF_BUSY);
+    refuses("a drop of no task", drop(2), TARIFF_UNKNOWN);
+    refuses("a define", define(2, 10, 2, 0, 0, 0, NULL), TARIFF_TAKEN);
+    refuses("a record", record(2, 10, 1), TARIFF_TAKEN);
+    would("a try", record(3, 10, 1), TARIFF_ACCEPTED, 0);
+    accepts("a record of what is there", record(2, 10, 2));
+    takes_back("still", &first);
+    defines("what it wanted", define(1, 30, 2, 0, 0, 0, NULL), 2);
+    takes_back("and taken back", &first);
+    expect("it wants it again", run(9), 0, SIX(TARIFF_RAN_FOR, TARIFF_WANTED, 1, 30, 0, 0));
+    defines("once more", define(1, 30, 2, 0, 0, 0, NULL), 2);
+    expect("it goes on", run(9), 0, SIX(TARIFF_RAN_FOR, 0, TARIFF_FINISHED, TARIFF_QUOTE, 7, 2));
+    too_late("what it has used stays");
+    load_many(100, 1);
+    expect("idle", step(), 0, SIX(TARIFF_STEPPED, 0, TARIFF_IDLE, 0, 0, 0));
+    expect("an idle run", run(9), 0, SIX(TARIFF_RAN_FOR, 0, TARIFF_IDLE, 0, 0, 0));
+    take_many(1);
+    too_late("and no more");
+}
+
+/* A trace of that many levels, the first of them this one, and the others, if there are any, this one too. */
+static void set_trace(uint32_t loads, const uint16_t level[LEVEL])
+{
+    set(0, LOADS, loads);
+    for (size_t i = 0; i < (loads < MOST_LOADS ? loads : MOST_LOADS) * LEVEL; i++)
+        set(0, TRACE + i, level[i % LEVEL]);
+}
+
+/* No call but boot takes such a store, and no page of it is written. */
+static void broken_trace(const char *what, uint32_t loads, const uint16_t level[LEVEL])
+{
+    put_back(&first);
+    set_trace(loads, level);
+    for (int name = 1; name < CALLS; name++)
+        refuses(what, each(name), TARIFF_BROKEN);
+    accepts("a trace booted", boot());
+    too_late("boot closes");
+}
+
+/* Such a trace isn't broken: it is taken back level by level, and then it is too late. */
+static void strange_trace(const char *what, uint32_t loads, const uint16_t level[LEVEL])
+{
+    put_back(&first);
+    set_trace(loads, level);
+    take_many(loads);
+    for (size_t i = 0; i < LEVEL; i++)
+        check(what, count_at(i) == level[i]);
+    too_late(what);
+}
+
+#define AT(...) (const uint16_t[LEVEL]){__VA_ARGS__}
+
+/* Traces that nobody left. Loader 1 has 10 and below it 11, of 9 bytes each, and loader 2 the first of them. */
+static void damaged_traces(void)
+{
+    accepts("boot", boot());
+    accepts("loader 1 knows Object", record(1, 2, 0));
+    defines("10", define(1, 10, 2, 0, 0, 0, NULL), 1);
+    defines("11", define(1, 11, 10, 0, 0, 0, NULL), 2);
+    accepts("loader 2's 10", record(2, 10, 1));
+    keep(&first);
+    check("what there is", count_at(0) == 3 && count_at(1) == 18 && count_at(2) == 5 && count_at(3) == 0 && count_at(4) == 0);
+    broken_trace("33 loads", 33, AT(3, 18, 5, 0, 0));
+    broken_trace("65,535 loads", 65535, AT(3, 18, 5, 0, 0));
+    broken_trace("a class that isn't there", 1, AT(4, 18, 5, 0, 0));
+    broken_trace("bytes that aren't there", 1, AT(3, 19, 5, 0, 0));
+    broken_trace("an entry that isn't there", 1, AT(3, 18, 6, 0, 0));
+    broken_trace("a tie that isn't there", 1, AT(3, 18, 5, 1, 0));
+    broken_trace("a note that isn't there", 1, AT(3, 18, 5, 0, 1));
+    broken_trace("numbers that are too large", 1, AT(65535, 65535, 65535, 65535, 65535));
+    broken_trace("a class without its file", 1, AT(3, 17, 5, 0, 0));
+    broken_trace("a class without its superclass's entry", 1, AT(2, 9, 1, 0, 0));
+    broken_trace("an entry without its class", 1, AT(2, 9, 4, 0, 0));
+    broken_trace("Object's entries without Object", 1, AT(0, 0, 1, 0, 0));
+    strange_trace("32 levels of nothing", 32, AT(3, 18, 5, 0, 0));
+    strange_trace("two classes at once", 1, AT(1, 0, 2, 0, 0));
+    strange_trace("bytes of no class", 1, AT(2, 18, 3, 0, 0));
+    strange_trace("a class without its own entry", 1, AT(2, 9, 2, 0, 0));
+    strange_trace("everything", 2, AT(0, 0, 0, 0, 0));
+
+    /* in turn: the upper level leaves fewer rows than the lower one needs */
+    put_back(&first);
+    set_trace(2, AT(3, 18, 5, 0, 0));
+    set(0, TRACE + LEVEL + 2, 4);
+    for (int name = 1; name < CALLS; name++)
+        refuses("a level above the one behind it", each(name), TARIFF_BROKEN);
+}
+
+/* The class of an object or frame goes with no level; rows that stay keep numbers without a gap. */
+static void damaged_uses(void)
+{
+    quoting(IDENTITY);
+    keep(&first);
+    broken_trace("the class of the quote", 1, AT(1, 0, 4, 0, 0));
+    strange_trace("nothing of it", 1, AT(2, 24, 5, 0, 0));
+    accepts("the quote dropped", drop(TARIFF_QUOTE));
+    keep(&first);
+    broken_trace("the class of its object", 1, AT(1, 0, 4, 0, 0));
+    put_back(&first);
+    frees("it", 1);
+    keep(&first);
+    strange_trace("a class that nothing is of", 1, AT(1, 0, 4, 0, 0));
+
+    tied();
+    accepts("loader 3 asks for class 10", record(3, 10, 1));
+    defines("a note and a tie", define(3, 17, 10, 0, 12, BELOW(18, 19)), 4);
+    accepts("closed", drop(TARIFF_QUOTE));
+    keep(&first);
+    unsigned classes = count_at(0), kept = count_at(1), entries = count_at(2);
+    broken_trace("row 1 goes and row 2 stays", 1, AT(classes, kept, entries, 2, 0));
+    broken_trace("row 0 goes and row 1 stays", 1, AT(classes, kept, entries, 0, 1));
+    strange_trace("row 2 goes", 1, AT(classes, kept, entries, 1, 1));
+    strange_trace("rows 1 and 2 go", 1, AT(classes, kept, entries, 1, 0));
+    strange_trace("all go", 1, AT(classes, kept, entries, 0, 0));
+}
+
+static void taking_back(void)
+{
+    loads_undone();
+    loads_lost();
+    closing();
+    staying_open();
+    damaged_traces();
+    damaged_uses();
+}
+
 int main(void)
 {
-    static const char *const names[] = {"boot", "define", "record", "start", "step", "run", "drop", "sweep", "try define", "try record", "check"};
+    static const char *const names[] = {"boot", "define", "record", "start", "step", "run", "drop", "sweep", "take back", "try define", "try record", "check"};
     make_tables();
     watch_writes();
     booting();
@@ -1127,6 +1404,7 @@ int main(void)
     tied_arguments();
     room_for_ties();
     trying();
+    taking_back();
     printf("host: bytes of stack:");
     for (int i = 0; i < MEASURED; i++) {
         printf(" %s %zu", names[i], deepest[i]);

@@ -10,7 +10,7 @@
 #include "desk.h"
 #include "tariff.h"
 
-_Static_assert(sizeof(struct tariff_store) == 70032, "a store's bytes, as published");
+_Static_assert(sizeof(struct tariff_store) == 70356, "a store's bytes, as published");
 
 static int checked = 0;
 static int wrong = 0;
@@ -33,6 +33,9 @@ enum { OWNERS = 8 };
 
 /* Where the numbers of ties and of subtype constraints stand among them. */
 enum { TIE_NUMBERS = 264, SUBTYPE_NUMBERS = 520 };
+
+/* Where the count of loads that can be taken back stands among them, and behind it their levels, of five cells each. */
+enum { LOADS = 776, TRACE = 777, LEVEL = 5, MOST_LOADS = 32 };
 
 static const size_t width[] = {2, 2, 1, 2, 2, 2, 4, 4, 4, 2};
 static const size_t cells[] = {TARIFF_COUNTS, TARIFF_CLASSES, TARIFF_KEPT,   TARIFF_CACHE, TARIFF_TIES,
@@ -68,6 +71,9 @@ static void set(int i, size_t cell, uint32_t value)
 {
     memcpy(memory[i] + room[i] - (cells[i] - cell) * width[i], &value, width[i]);
 }
+
+/* A cell of counts, of tables that have their lengths. */
+static unsigned count_at(size_t cell) { return ((uint16_t *)table[0])[cell]; }
 
 /* All tables at one time, with the memory before them. */
 struct image {
@@ -113,7 +119,7 @@ static void make_tables(void)
 /* Calls */
 
 /* The calls on a store, and the desk's check, which takes none. */
-enum { BOOT, DEFINE, RECORD, START, STEP, RUN, DROP, SWEEP, TRY_DEFINE, TRY_RECORD, CALLS, CHECK = CALLS, MEASURED };
+enum { BOOT, DEFINE, RECORD, START, STEP, RUN, DROP, SWEEP, TAKE_BACK, TRY_DEFINE, TRY_RECORD, CALLS, CHECK = CALLS, MEASURED };
 
 struct call {
     int name;
@@ -127,6 +133,7 @@ static struct call step(void) { return (struct call){.name = STEP}; }
 static struct call run(uint32_t n) { return (struct call){.name = RUN, .one = n}; }
 static struct call drop(uint32_t task) { return (struct call){.name = DROP, .one = task}; }
 static struct call sweep(void) { return (struct call){.name = SWEEP}; }
+static struct call take_back(void) { return (struct call){.name = TAKE_BACK}; }
 
 static struct call record(uint32_t loader, uint32_t name, uint32_t number)
 {
@@ -281,6 +288,7 @@ static uint8_t perform(const struct call *c)
     case STEP: return tariff_step(LENT, LEND(ANSWER));
     case RUN: return tariff_run(LENT, c->one, LEND(ANSWER));
     case SWEEP: return tariff_sweep(LENT, LEND(ANSWER));
+    case TAKE_BACK: return tariff_take_back(LENT, LEND(ANSWER));
     case TRY_DEFINE: return tariff_try_define(LENT, c->one, c->file, c->size, LEND(LIST), LEND(ANSWER));
     case TRY_RECORD: return tariff_try_record(LENT, c->one, c->two, c->three, LEND(LIST), LEND(ANSWER));
     case CHECK: return tariff_check(c->file, c->size);
@@ -354,7 +362,7 @@ static void watch_writes(void)
     }
 }
 
-/* Does the call write to no table: is it refused or a try, has no step run, is nothing freed? */
+/* Does the call write to no table: is it refused or a try, has no step run, is nothing freed and no load open? */
 static int is_reading(const struct call *c, uint8_t number, const uint32_t six[])
 {
     uint32_t kind = six[TARIFF_CELL_KIND];
@@ -362,7 +370,7 @@ static int is_reading(const struct call *c, uint8_t number, const uint32_t six[]
         return 1;
     if (kind == TARIFF_STEPPED || (kind == TARIFF_RAN_FOR && six[TARIFF_CELL_STEPS] == 0))
         return six[TARIFF_CELL_WORD] != 0 || six[TARIFF_CELL_ONE] == TARIFF_IDLE;
-    return kind == TARIFF_SWEPT && six[TARIFF_CELL_ONE] == 0;
+    return kind == TARIFF_SWEPT && six[TARIFF_CELL_ONE] == 0 && count_at(LOADS) == 0;
 }
 
 /* The call, on tables that may only be read if it is to write to none. */

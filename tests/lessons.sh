@@ -22,7 +22,7 @@ fail() { # WORDS
 own() {
     local ran
     TARIFF_LIB=$PWD/target/staticlib FUZZ_SECONDS=${FUZZ_SECONDS:-60} cargo test --manifest-path tools/Cargo.toml --offline --release --quiet \
-        --features host --target-dir "$tools/host" --lib --test round_trips --test lessons --test why --test fuzz 2>&1 | tee "$work/own" || fail "a test of tools/"
+        --features host --target-dir "$tools/host" --lib --test round_trips --test lessons --test why --test editors --test fuzz 2>&1 | tee "$work/own" || fail "a test of tools/"
     ran=$(awk '/^test result: ok\. [0-9]+ passed/ { ran += $4 } END { print ran + 0 }' "$work/own")
     [ "$ran" -ge 18 ] || fail "only $ran tests of tools/ ran"
 }
@@ -59,6 +59,23 @@ lessons() {
     [ "$count" -gt 19 ] || fail "there are only $count lessons"
 }
 
+# The answers to the course's exercises, and the pages that it names.
+course() {
+    local lesson name count=0
+    for lesson in docs/course/*.lesson; do
+        count=$((count + 1))
+        ./box "$lesson" >"$work/out" 2>&1 || { cat "$work/out"; fail "$lesson fails"; }
+        grep -q 'all met$\|, met$' "$work/out" || fail "$lesson expects nothing"
+    done
+    [ "$count" -eq 10 ] || fail "there are $count answers to the course's exercises"
+    for name in $(awk -F'|' '/^\| [0-9]/ { gsub(/, then/, "", $5); print $5 }' docs/COURSE.md); do
+        [ -e "examples/$name.lesson" ] || fail "docs/COURSE.md names the page $name, and there is no such lesson"
+    done
+    awk '/^## A lesson of one/ { on = 1 } on && /^    / { print substr($0, 5) }' docs/COURSE.md >"$work/orders.lesson"
+    ./box "$work/orders.lesson" >"$work/out" 2>&1 || fail "the lesson of docs/COURSE.md fails"
+    grep -q "^orders A and B part at Red defines Discount: refused: 9, clash in A, defined: class 3 in B$" "$work/out" || fail "the orders of docs/COURSE.md don't part"
+}
+
 # Texts through the assembler, and their files listed and assembled again.
 assembler() {
     local file
@@ -92,7 +109,8 @@ usage() {
     local words status
     for words in "" "--store" "nothing-there.lesson" "list" "check nothing-there" "asm examples/first.lesson" "--what examples/first.box" \
         "--draw examples/first.lesson mine.lesson" "examples/first.lesson mine.svg" "examples" "why" "why nothing-there.lesson" \
-        "why --what examples/first.lesson"; do
+        "why --what examples/first.lesson" "page" "page nothing-there.lesson" "page examples/first.lesson -o" "talk examples/first.lesson" "watch" \
+        "watch nothing-there.lesson"; do
         status=0
         # shellcheck disable=SC2086
         ./box $words >"$work/out" 2>&1 || status=$?
@@ -121,7 +139,7 @@ mistakes() {
         [mistake-5]=compares-by-name
         [dead-objects]="sweep-(forgets-locals|forgets-the-report|frees-[a-z]+|tells-[a-z-]+)|freed-objects-count-for-full"
         [a-week-of-reports]="a-share-of-[a-z-]+|the-share-[a-z-]+|the-quotes-objects-are-counted|everyones-objects-are-counted|a-freed-row-is-still-counted|full-comes-before-the-share|a-task-without-frames-holds-nothing|new-asks-for-no-share"
-        [taken-back]="a-(define|record)-isnt-remembered|(classes|entries|ties)-arent-cut|all-is-taken-back|a-taking-back-closes|nothing-to-take-back-is-accepted|an-idle-step-closes|a-run-of-nothing-closes|a-refused-(load|start)-closes|a-record-of-what-is-there-[a-z-]+|start-doesnt-close|drop-[a-z-]+-doesnt-close"
+        [taken-back]="a-(define|record)-isnt-remembered|(classes|entries|ties)-arent-cut|all-is-taken-back|a-taking-back-closes|nothing-to-take-back-is-accepted|an-idle-step-closes|a-run-of-nothing-closes|a-refused-(load|start)-closes|a-record-of-what-is-there-[a-z-]+|(start|drop|sweep|a-run)-doesnt-close|drop-[a-z-]+-doesnt-close|a-(sweep-that-frees-nothing|step-that-ran)-doesnt-close"
         [age-bands]="less-than-[a-z-]+|jumps-from-the-instruction|offsets-from-the-instruction|unmapped-is-unverified|unset-for-int"
         [instalments]="ifeq-[a-z-]+|a-jump-to-itself-is-stuck|sweep-forgets-unset-locals|a-set-local-stays-set"
         [rates]="quotients-are-[a-z]+|divide[sd]-[a-z-]+|the-least-by-[a-z-]+|zero-divisor-is-[a-z]+|a-refused-division-[a-z-]+|products-[a-z-]+|rates-in-version-one"
@@ -161,6 +179,7 @@ if [ "${1:-}" = --write-errors ]; then
 fi
 own
 lessons
+course
 assembler
 printed
 usage

@@ -1,7 +1,7 @@
 //! The verified machine beside this one: call by call, answer by answer, cell by cell. The first difference panics and says where it was.
 
 use std::fmt;
-use std::sync::atomic::{AtomicU64, Ordering};
+use std::sync::atomic::{AtomicBool, AtomicU64, Ordering};
 use std::thread;
 use std::time::{Duration, Instant};
 
@@ -221,6 +221,9 @@ impl Comparison {
 
     /// What needs no seed.
     fn fixed(&mut self) {
+        for (what, store, _) in traces::cases() {
+            [Call::TakeBack, Call::Step, Call::Sweep].iter().for_each(|call| drop(self.call(&store, call, CELLS, what)));
+        }
         for (at, trial) in cases::cases().iter().chain(&swept()).chain(&loops()).chain(&rates::rates()).chain(&hidden()).chain(&listed::listed()).chain(&shares()).chain(&taken_back()).enumerate() {
             self.play(trial, &format!("case {at}"));
         }
@@ -249,9 +252,6 @@ impl Comparison {
         for (what, store, load, _) in clashes::choices() {
             self.call(&store, &load, CELLS, what);
         }
-        for (what, store, _) in traces::cases() {
-            [Call::TakeBack, Call::Step, Call::Sweep].iter().for_each(|call| drop(self.call(&store, call, CELLS, what)));
-        }
         self.large();
     }
 
@@ -272,9 +272,13 @@ impl Comparison {
         let swept = held.map(|held| (large::objects(held), Call::Sweep));
         let made = [false, true].map(|freed| (large::making(freed), run.clone()));
         let looping = [large::Round::Ints, large::Round::Field].map(|round| (large::looping(round), run.clone()));
-        let empty = Trial::ready([1]).store;
-        let long = large::long_files().map(|(_, file)| (empty.clone(), Call::Define { loader: 1, file }));
-        for (at, (store, call)) in calls.iter().chain(&reasons).chain(&swept).chain(&made).chain(&looping).chain(&long).enumerate() {
+        let long = large::long_files().map(|(_, file)| (large::empty(), Call::Define { loader: 1, file }));
+        let (open, open_full) = (large::remembering(), large::full_remembering(large::Repeated::NullPop));
+        let taken = [
+            (open.clone(), large::usual_define()), (open.clone(), large::usual_record()), (open.clone(), Call::Step), (open, Call::TakeBack),
+            (open_full.clone(), Call::Step), (open_full.clone(), Call::Sweep), (open_full, Call::TakeBack),
+        ];
+        for (at, (store, call)) in calls.iter().chain(&reasons).chain(&swept).chain(&made).chain(&looping).chain(&long).chain(&taken).enumerate() {
             self.call(store, call, CELLS, &format!("large store {at}"));
         }
     }
@@ -383,17 +387,28 @@ pub fn arguments() -> String {
     })
 }
 
-/// Compares for so many seeds from 0, and for more until so much time is over, on all processors.
-pub fn all(seeds: u64, time: Duration) -> Comparison {
-    let (next, clock) = (AtomicU64::new(0), Instant::now());
+/// Says of a worker that it has met a difference, by which it ends.
+struct Ended<'a>(&'a AtomicBool);
+
+impl Drop for Ended<'_> {
+    fn drop(&mut self) {
+        self.0.fetch_or(thread::panicking(), Ordering::Relaxed);
+    }
+}
+
+/// Compares for so many seeds from the first on, and for more until so much time is over, on all processors. When one has met a difference, no other begins a seed.
+pub fn all(first: u64, seeds: u64, time: Duration) -> Comparison {
+    let (next, clock, ended) = (AtomicU64::new(0), Instant::now(), AtomicBool::new(false));
     let work = || {
         let mut own = Comparison::default();
+        let _ended = Ended(&ended);
         loop {
             let seed = next.fetch_add(1, Ordering::Relaxed);
             match seed {
+                _ if ended.load(Ordering::Relaxed) => return own,
                 0 => own.fixed(),
                 1 => own.cells(),
-                _ if seed - 2 < seeds || clock.elapsed() < time => own.seed(seed - 2),
+                _ if seed - 2 < seeds || clock.elapsed() < time => own.seed(first + seed - 2),
                 _ => return own,
             }
         }

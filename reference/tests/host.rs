@@ -1,6 +1,6 @@
 //! The verified machine beside the second implementation.
 //!
-//! TARIFF_SEEDS sets how many seeds are compared, TARIFF_SECONDS for how long at least.
+//! TARIFF_SEEDS sets how many seeds are compared, TARIFF_FIRST which is the first, TARIFF_SECONDS for how long at least.
 
 #![cfg(feature = "host")]
 
@@ -15,7 +15,7 @@ fn setting(name: &str) -> Option<u64> {
 #[test]
 fn the_two_machines_are_the_same() {
     let seeds = setting("TARIFF_SEEDS").unwrap_or(1_000);
-    let comparison = all(seeds, Duration::from_secs(setting("TARIFF_SECONDS").unwrap_or(0)));
+    let comparison = all(setting("TARIFF_FIRST").unwrap_or(0), seeds, Duration::from_secs(setting("TARIFF_SECONDS").unwrap_or(0)));
     println!("{comparison}");
     assert_eq!(comparison.odd(), Vec::<String>::new());
 }

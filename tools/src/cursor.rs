@@ -214,6 +214,34 @@ impl<'a> Cursor<'a> {
         Ok(self.number(what, 0, u32::MAX.into())? as u32)
     }
 
+    /// A loader: its number, or its insurer's word.
+    pub fn loader(&mut self) -> Parsed<u32> {
+        match self.insurer() {
+            Some(loader) => {
+                self.at += 1;
+                Ok(loader.into())
+            }
+            None => self.any_number("a loader, 0 to 15"),
+        }
+    }
+
+    /// The loader of the insurer whose word is next on the line.
+    pub fn insurer(&self) -> Option<u16> {
+        self.names.insurer(self.word().filter(|_| self.goes_on())?)
+    }
+
+    /// The numbers that this text gives to names, wherever it does.
+    pub fn given_numbers(&self) -> Vec<u16> {
+        let is_first = |at: usize| at == 0 || self.tokens[at - 1].line < self.tokens[at].line;
+        let number = |(at, three): (usize, &[Token])| match three {
+            [name, word, Token { kind: Kind::Number(number), .. }] if self.source.of(name.span) == "name" && word.kind == Kind::Word => {
+                u16::try_from(*number).ok().filter(|_| is_first(at))
+            }
+            _ => None,
+        };
+        self.tokens.windows(3).enumerate().filter_map(number).collect()
+    }
+
     /// An int, as its 32 bits.
     pub fn int(&mut self) -> Parsed<u32> {
         Ok(self.number("an int", i32::MIN.into(), i32::MAX.into())? as i32 as u32)

@@ -217,7 +217,7 @@ impl Picture {
         let colour = if self.is_refused() { "#c00" } else { "#111" };
         let _ = writeln!(out, "<text x=\"{LEFT}\" y=\"34\" font-size=\"16\" fill=\"{colour}\">{title}</text>");
         for &loader in &grid.loaders {
-            text(out, (grid.x(loader) + BOX.0 / 2, 66), "#555", "middle", &format!("loader {loader}"));
+            text(out, (grid.x(loader) + BOX.0 / 2, 66), "#555", "middle", &names.loader(loader));
         }
         for &(row, age) in &self.ties {
             grid.tie(row, age, out);
@@ -243,7 +243,7 @@ impl Picture {
         let (fill, stroke, below) = match entry {
             None => (white, "stroke=\"#888\" stroke-width=\"1.2\" stroke-dasharray=\"3 3\"".to_string(), "not loaded".to_string()),
             Some(&Entry { row: [_, _, class], age, definer }) => {
-                let of = format!("class {class} of loader {definer}");
+                let of = format!("class {class} of {}", names.loader(definer));
                 let place = classes.iter().position(|&other| other == class).unwrap_or(0);
                 match age {
                     Age::Refused => (white, age.stroke(), format!("{of}? refused")),
@@ -254,7 +254,9 @@ impl Picture {
         };
         let (wide, high) = BOX;
         let written = names.class(name);
-        let _ = writeln!(out, "<g><title>{} under loader {loader}: {below}</title>", escaped(&written));
+        let under = escaped(&names.loader(loader));
+        let below = escaped(&below);
+        let _ = writeln!(out, "<g><title>{} under {under}: {below}</title>", escaped(&written));
         let shape = format!("x=\"{x}\" y=\"{y}\" width=\"{wide}\" height=\"{high}\" rx=\"7\"");
         let _ = writeln!(out, "<rect {shape} fill=\"{}\" {stroke}/>", fill.colour);
         if fill.pattern > 0 {

@@ -26,7 +26,7 @@ pub enum Wish {
 }
 
 /// Answers besides the words of refusal.
-const ANSWERS: [&str; 7] = ["accepted", "class", "freed", "idle", "ran", "finished", "wanted"];
+pub const ANSWERS: [&str; 7] = ["accepted", "class", "freed", "idle", "ran", "finished", "wanted"];
 
 impl Expected {
     /// `expect ANSWER [after STEPS]`, at its first word.
@@ -82,10 +82,10 @@ impl Wish {
 
     /// `wanted`, perhaps with a loader and a name.
     fn wanted(at: &mut Cursor) -> Parsed<Wish> {
-        if !at.took("loader") && !at.has_number() {
+        if !at.took("loader") && !at.has_number() && at.insurer().is_none() {
             return Ok(Wish::Wanted(None));
         }
-        let loader = at.any_number("a loader, 0 to 15")?;
+        let loader = at.loader()?;
         Ok(Wish::Wanted(Some((loader, at.name("a class's name")?))))
     }
 

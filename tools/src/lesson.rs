@@ -1,7 +1,7 @@
 //! A lesson: names, class texts, and calls in words, each perhaps with the answer that is expected.
 
 use reference::gen::Call;
-use reference::store::{LENGTHS, TABLES};
+use reference::store::{LENGTHS, LOADERS, OBJECT, TABLES};
 
 use crate::cursor::{Cursor, Parsed};
 use crate::expect::Expected;
@@ -10,11 +10,27 @@ use crate::names::{Names, Taken};
 use crate::source::{Problem, Problems, Source, Span};
 use crate::text::{self, Text};
 use crate::tokens::Kind;
+use crate::words;
 
+#[derive(Default)]
 pub struct Lesson {
     pub names: Names,
     pub texts: Vec<Text>,
     pub acts: Vec<Act>,
+    /// May a page ask what the machine will say?
+    pub quiz: Quiz,
+    /// Machines with a mistake, of the second implementation, whose answers a page shows beside the machine's.
+    pub mistakes: Vec<&'static str>,
+}
+
+/// At which calls a page asks.
+#[derive(Clone, Copy, Debug, Default, PartialEq, Eq)]
+pub enum Quiz {
+    #[default]
+    All,
+    /// Those with the word `ask` before them.
+    Marked,
+    Off,
 }
 
 pub enum Act {
@@ -25,6 +41,31 @@ pub enum Act {
         times: u32,
         acts: Vec<Act>,
     },
+    /// Calls in one of several orders; what follows begins from the store before them.
+    Order {
+        called: String,
+        acts: Vec<Act>,
+    },
+}
+
+impl Lesson {
+    /// All that is done, a round of a repeat once, with those of the orders.
+    pub fn doings(&self) -> Vec<&Doing> {
+        let mut all = Vec::new();
+        gather(&self.acts, &mut all);
+        all
+    }
+}
+
+/// The calls of these acts, in order.
+pub fn gather<'a>(acts: &'a [Act], all: &mut Vec<&'a Doing>) {
+    for act in acts {
+        match act {
+            Act::Say(_) => {}
+            Act::Do(doing) => all.push(doing),
+            Act::Repeat { acts, .. } | Act::Order { acts, .. } => gather(acts, all),
+        }
+    }
 }
 
 pub struct Doing {
@@ -33,6 +74,8 @@ pub struct Doing {
     pub said: String,
     pub span: Span,
     pub expected: Vec<Expected>,
+    /// Was it marked by the word `ask`?
+    pub asked: bool,
 }
 
 pub enum What {
@@ -71,7 +114,23 @@ const STATEMENTS: [Statement; 11] = [
     ("damage", "damage counts 5 300", |reader| reader.damage()),
 ];
 
-const OTHERS: [&str; 6] = ["name", "class", "file", "java", "repeat", "expect"];
+/// What stands in a text besides calls. Those that aren't allowed among the calls of a repeat or an order come first.
+const OTHERS: [&str; 11] = ["name", "insurer", "class", "file", "java", "quiz", "mistake", "order", "repeat", "ready", "ask"];
+const DECLARING: usize = 7;
+const EXPECT: &str = "expect";
+
+/// What the calls stand in that are being read.
+#[derive(Clone, Copy, PartialEq, Eq)]
+enum Within {
+    Lesson,
+    Order,
+    Repeat,
+}
+
+/// Every word that begins something: none of them is an insurer's.
+pub fn keywords() -> impl Iterator<Item = &'static str> {
+    STATEMENTS.iter().map(|statement| statement.0).chain(OTHERS).chain([EXPECT])
+}
 
 /// Makes class texts of Java files, by the names of the lesson, which gets new ones.
 pub type Javas<'a> = &'a mut dyn FnMut(&[String], &mut Names) -> Result<Vec<Made>, String>;
@@ -84,11 +143,12 @@ impl Lesson {
 
     /// Reads a text to its end; the problems of all its statements, if it has any.
     pub fn read_with(source: &Source, javas: Javas) -> Result<Lesson, Problems> {
-        let lesson = Lesson { names: Names::default(), texts: Vec::new(), acts: Vec::new() };
-        let mut reader = Reader { at: Cursor::new(source), lesson, javas };
+        let mut reader = Reader { at: Cursor::new(source), lesson: Lesson::default(), javas };
+        let given = reader.at.given_numbers();
+        reader.at.names.keep(given);
         while !reader.at.is_end() {
             let from = reader.at.mark();
-            match reader.statement(false) {
+            match reader.statement(Within::Lesson) {
                 Ok(act) => reader.lesson.acts.extend(act),
                 Err(problem) => {
                     reader.at.note(problem);
@@ -120,22 +180,26 @@ struct Reader<'a, 'j> {
 }
 
 impl Reader<'_, '_> {
-    /// The next statement; a declaration is no act. A round of a repeat has calls and words alone.
-    fn statement(&mut self, in_repeat: bool) -> Parsed<Option<Act>> {
+    /// The next statement; a declaration is no act. A round of a repeat has calls and words alone, an order has repeats too.
+    fn statement(&mut self, within: Within) -> Parsed<Vec<Act>> {
         if let Kind::Said(said) = &self.at.peek().kind {
             let said = said.clone();
             self.at.take();
-            return Ok(Some(Act::Say(said)));
+            return Ok(vec![Act::Say(said)]);
         }
         let Some(word) = self.at.word() else {
-            return Err(self.at.here(if in_repeat { "a call or '}'" } else { "a statement" }));
+            return Err(self.at.here(if within == Within::Lesson { "a statement" } else { "a call or '}'" }));
         };
+        let is_declaration = OTHERS[..DECLARING].contains(&word);
         match word {
-            "name" | "class" | "file" | "java" | "repeat" if in_repeat => Err(self.at.here("a call or '}'")),
-            "name" | "class" | "file" | "java" => self.declaration(word).map(|()| None),
-            "repeat" => self.repeat().map(Some),
-            "expect" => Err(Problem::new(self.at.peek().span, "expect stands behind a call, and there is none")),
-            _ => self.doing(word).map(|doing| Some(Act::Do(doing))),
+            _ if within != Within::Lesson && (is_declaration || word == "order") => Err(self.at.here("a call or '}'")),
+            "repeat" if within == Within::Repeat => Err(self.at.here("a call or '}'")),
+            _ if is_declaration => self.declaration(word).map(|()| Vec::new()),
+            "repeat" => self.repeat().map(|act| vec![act]),
+            "order" => self.order().map(|act| vec![act]),
+            "ready" => self.ready(),
+            EXPECT => Err(Problem::new(self.at.peek().span, "expect stands behind a call, and there is none")),
+            _ => self.doing(word).map(|doing| vec![Act::Do(doing)]),
         }
     }
 
@@ -143,6 +207,9 @@ impl Reader<'_, '_> {
         self.at.take();
         match word {
             "name" => self.name(),
+            "insurer" => self.insurer(),
+            "quiz" => self.quiz(),
+            "mistake" => self.mistake(),
             "java" => self.java(),
             "class" => text::class(&mut self.at).and_then(|text| self.add(text)),
             _ => text::file(&mut self.at).and_then(|text| self.add(text)),
@@ -187,26 +254,130 @@ impl Reader<'_, '_> {
         Ok(())
     }
 
-    /// `name WORD NUMBER`
+    /// `name WORD NUMBER`, or `name WORD..`, each of which gets a number that no other has.
     fn name(&mut self) -> Parsed<()> {
         let (word, span) = self.at.fresh("a name")?;
-        let number = self.at.number("the name's number", 1, 65_535)?;
-        self.at.names.declare(word, number as u16).map_err(|taken| match taken {
+        if self.at.has_number() || !(self.at.goes_on() && self.at.word().is_some()) && self.at.goes_on() {
+            let number = self.at.number("the name's number", 1, 65_535)? as u16;
+            self.declare(word, span, number, self.at.last().span)?;
+            return self.at.line_ends("a name");
+        }
+        self.number_itself(word, span)?;
+        while self.at.goes_on() && self.at.word().is_some() {
+            let (word, span) = self.at.fresh("a name")?;
+            self.number_itself(word, span)?;
+        }
+        let behind = if self.at.has_number() { "several names, which number themselves" } else { "names" };
+        self.at.line_ends(behind)
+    }
+
+    /// A name without a number of its own.
+    fn number_itself(&mut self, word: &str, span: Span) -> Parsed<()> {
+        let number = self.at.names.free().ok_or_else(|| Problem::new(span, "there is no number left for a name"))?;
+        self.declare(word, span, number, span)
+    }
+
+    fn declare(&mut self, word: &str, span: Span, number: u16, at: Span) -> Parsed<()> {
+        self.at.names.declare(word, number).map_err(|taken| match taken {
             Taken::Name(there) => Problem::new(span, format!("{word} is declared already, as {there}")),
-            Taken::Number(there) => Problem::new(self.at.last().span, format!("{number} is {there} already")),
+            Taken::Number(there) => Problem::new(at, format!("{number} is {there} already")),
+            Taken::Word => Problem::new(span, format!("{word} is an insurer already")),
+        })
+    }
+
+    /// `insurer WORD [LOADER]`: the loader's name; without a number the lowest loader from 1 on that has none.
+    fn insurer(&mut self) -> Parsed<()> {
+        let (word, span) = self.at.fresh("the insurer's name")?;
+        if let Some(word) = keywords().find(|keyword| *keyword == word) {
+            return Err(Problem::new(span, format!("{word} begins a statement, so it names no insurer")));
+        }
+        let loader = match self.at.goes_on() {
+            true => self.at.number("the insurer's loader", 0, i64::from(LOADERS) - 1)? as u16,
+            false => self.at.names.free_loader().ok_or_else(|| Problem::new(span, "every loader from 1 to 15 has its insurer"))?,
+        };
+        self.at.names.insure(word, loader).map_err(|taken| match taken {
+            Taken::Name(there) => Problem::new(span, format!("{word} is loader {there} already")),
+            Taken::Number(there) => Problem::new(self.at.last().span, format!("loader {loader} is {there} already")),
+            Taken::Word => Problem::new(span, format!("{word} is a name already")),
         })?;
-        self.at.line_ends("a name")
+        self.at.line_ends("an insurer")
+    }
+
+    /// `quiz off`: a page of the lesson asks nothing.
+    fn quiz(&mut self) -> Parsed<()> {
+        self.at.keyword("off").map_err(|problem| problem.or_help("as in: quiz off"))?;
+        self.lesson.quiz = Quiz::Off;
+        self.at.line_ends("quiz off")
+    }
+
+    /// `mistake NAME`: a machine of the second implementation with this fault.
+    fn mistake(&mut self) -> Parsed<()> {
+        let begin = self.at.peek().span;
+        if !self.at.goes_on() {
+            return Err(self.at.expected("what a machine does wrongly").help("as in: mistake compares-by-name"));
+        }
+        while self.at.goes_on() {
+            self.at.take();
+        }
+        let span = begin.to(self.at.last().span);
+        let written = self.at.source.of(span);
+        let known = || faulty::faults::names();
+        let Some(fault) = known().find(|name| *name == written) else {
+            return Err(Problem::new(span, "the second implementation has no machine with this fault").near(written, known()));
+        };
+        self.lesson.mistakes.push(fault);
+        Ok(())
+    }
+
+    /// `ready LOADER..`: each of the loaders records Object as class 0.
+    fn ready(&mut self) -> Parsed<Vec<Act>> {
+        let begin = self.at.take();
+        let mut acts = Vec::new();
+        while self.at.goes_on() && !self.at.has_sign('}') || acts.is_empty() {
+            let loader = self.at.loader().map_err(|problem| problem.or_help("as in: ready 1 2 3"))?;
+            let call = Call::Record { loader, name: OBJECT.into(), class: 0 };
+            let (said, span) = (words::call(&call, &self.at.names), begin.to(self.at.last().span));
+            acts.push(Act::Do(Doing { what: What::Call(call), said, span, expected: Vec::new(), asked: false }));
+        }
+        Ok(acts)
+    }
+
+    /// `order WORD { calls }`. A second order has the calls of the first.
+    fn order(&mut self) -> Parsed<Act> {
+        self.at.take();
+        let (called, span) = self.at.fresh("what the order is called").map_err(|problem| problem.help("as in: order A { .. }"))?;
+        let acts = self.braced(Within::Order)?;
+        let earlier = self.lesson.acts.iter().rev().map_while(|act| match act {
+            Act::Order { called, acts } => Some(Some((called, acts))),
+            Act::Say(_) => Some(None),
+            _ => None,
+        });
+        for (other, theirs) in earlier.flatten() {
+            if other == called {
+                return Err(Problem::new(span, format!("there is an order {called} already")));
+            }
+            if let Some(said) = differs(theirs, &acts) {
+                let said = format!("orders {other} and {called} have the same calls, each as often, and they differ in: {said}");
+                return Err(Problem::new(span, said));
+            }
+        }
+        Ok(Act::Order { called: called.into(), acts })
     }
 
     fn repeat(&mut self) -> Parsed<Act> {
         self.at.take();
         let times = self.at.number("how often", 1, MOST_ROUNDS)? as u32;
+        Ok(Act::Repeat { times, acts: self.braced(Within::Repeat)? })
+    }
+
+    /// `{ calls }`
+    fn braced(&mut self, within: Within) -> Parsed<Vec<Act>> {
         self.at.sign('{')?;
         let mut acts = Vec::new();
         while !self.at.has_sign('}') {
             let from = self.at.mark();
-            match self.statement(true) {
-                Ok(act) => acts.extend(act),
+            match self.statement(within) {
+                Ok(more) => acts.extend(more),
                 Err(problem) if self.at.is_end() => return Err(problem),
                 Err(problem) => {
                     self.at.note(problem);
@@ -215,21 +386,21 @@ impl Reader<'_, '_> {
             }
         }
         self.at.take();
-        Ok(Act::Repeat { times, acts })
+        Ok(acts)
     }
 
     fn doing(&mut self, word: &str) -> Parsed<Doing> {
-        let Some((_, form, read)) = STATEMENTS.iter().find(|statement| statement.0 == word) else {
-            let known = STATEMENTS.iter().map(|statement| statement.0).chain(OTHERS);
-            let problem = Problem::new(self.at.peek().span, format!("'{word}' begins no statement"));
-            if ["R", "D", "S", "N", "X"].contains(&word) {
-                self.at.give_up();
-                return Err(problem.help("a script of such lines has a name that ends in .box"));
-            }
-            return Err(problem.near(word, known).or_help("docs/LESSONS.md has the words of a lesson"));
+        let asked = word == "ask";
+        if asked {
+            self.at.take();
+            self.lesson.quiz = if self.lesson.quiz == Quiz::Off { Quiz::Off } else { Quiz::Marked };
+        }
+        let word = match self.at.word() {
+            Some(word) if !asked || self.at.goes_on() => word,
+            _ => return Err(self.at.expected("a call")),
         };
-        let begin = self.at.take();
-        let what = read(self).map_err(|problem| problem.or_help(format!("as in: {form}")))?;
+        let begin = self.at.peek().span;
+        let what = self.what(word)?;
         let span = begin.to(self.at.last().span);
         let mut expected = Vec::new();
         while self.at.word() == Some("expect") {
@@ -240,11 +411,36 @@ impl Reader<'_, '_> {
             return Err(Problem::new(first.span, "damage is no call and has no answer"));
         }
         let said = self.at.source.of(span).split_whitespace().collect::<Vec<_>>().join(" ");
-        Ok(Doing { what, said, span, expected })
+        Ok(Doing { what, said, span, expected, asked })
+    }
+
+    /// The call that begins with this word: one of its own, or an insurer's.
+    fn what(&mut self, word: &str) -> Parsed<What> {
+        if let Some(loader) = self.at.names.insurer(word) {
+            self.at.take();
+            return self.loads(loader.into()).map_err(|problem| problem.or_help(format!("as in: {word} defines Discount")));
+        }
+        let Some((_, form, read)) = STATEMENTS.iter().find(|statement| statement.0 == word) else {
+            let mut known: Vec<&str> = keywords().filter(|known| *known != word).collect();
+            known.extend(self.at.names.insurers().iter().map(|insurer| insurer.0.as_str()));
+            let problem = Problem::new(self.at.peek().span, format!("'{word}' begins no statement")).near(word, known);
+            if ["R", "D", "S", "N", "X"].contains(&word) {
+                self.at.give_up();
+                return Err(problem.help("a script of such lines has a name that ends in .box"));
+            }
+            return Err(problem.or_help("docs/LESSONS.md has the words of a lesson"));
+        };
+        self.at.take();
+        read(self).map_err(|problem| problem.or_help(format!("as in: {form}")))
     }
 
     fn loader(&mut self) -> Parsed<What> {
-        let loader = self.at.any_number("a loader, 0 to 15")?;
+        let loader = self.at.loader()?;
+        self.loads(loader)
+    }
+
+    /// What a loader defines or records.
+    fn loads(&mut self, loader: u32) -> Parsed<What> {
         if self.at.took("defines") {
             let file = self.text()?.bytes.clone();
             return Ok(What::Call(Call::Define { loader, file }));
@@ -255,8 +451,10 @@ impl Reader<'_, '_> {
         }
         let name = self.at.name("a class's name")?;
         if self.at.took("of") {
-            self.at.keyword("loader")?;
-            return Ok(What::RecordOf { loader, name, of: self.at.any_number("a loader, 0 to 15")? });
+            if self.at.insurer().is_none() {
+                self.at.keyword("loader")?;
+            }
+            return Ok(What::RecordOf { loader, name, of: self.at.loader()? });
         }
         if !self.at.took("as") {
             return Err(self.at.expected("'as' and a class number, or 'of loader' and a loader"));
@@ -285,7 +483,7 @@ impl Reader<'_, '_> {
     fn starts(&mut self, task: u32) -> Parsed<What> {
         self.at.keyword("starts")?;
         self.at.took("loader");
-        let loader = self.at.any_number("a loader, 0 to 15")?;
+        let loader = self.at.loader()?;
         let [name, method] = text::dotted(&mut self.at, "a method")?;
         let int = self.at.int()?;
         Ok(What::Call(Call::Start { task, loader, name, method, int }))
@@ -319,4 +517,19 @@ impl Reader<'_, '_> {
         let value = self.at.number("what the cell gets", 0, TABLES[table].1.into())? as u32;
         Ok(What::Damage { table, cell, value })
     }
+}
+
+/// A call that one of two orders has more often than the other.
+fn differs(one: &[Act], other: &[Act]) -> Option<String> {
+    let calls = |acts| {
+        let mut all = Vec::new();
+        gather(acts, &mut all);
+        let mut said: Vec<String> = all.into_iter().map(|doing| doing.said.clone()).collect();
+        said.sort_unstable();
+        said
+    };
+    let (one, other) = (calls(one), calls(other));
+    let same = one.iter().zip(&other).take_while(|(one, other)| one == other).count();
+    // where the sorted lists part, the other has none like the smaller one
+    one.get(same).into_iter().chain(other.get(same)).min().cloned()
 }

@@ -1,5 +1,6 @@
 //! The tariff writer's tool: a text form of class files, lessons on the proved machine, listings, verdicts, pictures.
 
+pub mod advice;
 pub mod check;
 pub mod cursor;
 pub mod draw;
@@ -12,15 +13,20 @@ pub mod machine;
 pub mod many;
 pub mod maps;
 pub mod names;
+pub mod orders;
+pub mod origins;
+pub mod page;
 pub mod play;
 pub mod reasons;
 pub mod rows;
 pub mod script;
 pub mod source;
 pub mod svg;
+pub mod talk;
 pub mod text;
 pub mod tokens;
 pub mod tried;
 pub mod version;
+pub mod vocabulary;
 pub mod why;
 pub mod words;

@@ -11,22 +11,33 @@ use crate::java::classfile::MAGIC;
 use crate::java::lines::Lines;
 use crate::names::Names;
 use crate::reasons;
+use crate::text::Text;
 
 pub const LEGEND: &str =
     "# Behind an instruction: its point, the [operands] and {locals} before it, and the notes that it makes.\n";
 
 /// A listing that assembles to these bytes. Bytes that are no file are listed, in comments, as far as they read.
 pub fn listing(bytes: &[u8], called: &str, names: &Names) -> String {
-    with_lines(bytes, called, names, &Lines::default())
+    with_words(bytes, called, names, &Words::default())
 }
 
-/// The same with the Java line, in a comment, before the first instruction that comes from it.
-pub fn with_lines(bytes: &[u8], called: &str, names: &Names, lines: &Lines) -> String {
+/// What the writer of a file had for it, which a listing has in comments.
+#[derive(Default)]
+pub struct Words<'a> {
+    /// The Java lines, each before the first instruction that comes from it.
+    pub lines: Option<&'a Lines>,
+    /// The text, for its labels.
+    pub text: Option<&'a Text>,
+}
+
+/// The same with the writer's words.
+pub fn with_words(bytes: &[u8], called: &str, names: &Names, words: &Words) -> String {
     let sketch = Sketch::read(bytes);
     match File::explained(bytes) {
         Ok(file) => {
             let called = Some(called).filter(|&called| called != names.class(file.name()));
-            class(&sketch, called, names, seen, lines)
+            let place = |method: Method, point: usize| method.code.as_ptr() as usize - bytes.as_ptr() as usize + point;
+            class(&sketch, called, names, seen, words, &place)
         }
         Err(flaw) => damaged(bytes, &sketch, flaw, called, names),
     }
@@ -37,7 +48,7 @@ fn damaged(bytes: &[u8], sketch: &Sketch, flaw: Flaw, called: &str, names: &Name
     if bytes.starts_with(&MAGIC) {
         out.push_str("# It is a class file of Java's: ./box from-java makes one of the box of it.\n");
     }
-    let read = class(sketch, None, names, |_, _| (Vec::new(), None), &Lines::default());
+    let read = class(sketch, None, names, |_, _| (Vec::new(), None), &Words::default(), &|_, _| 0);
     out.push_str("# As far as it reads:\n");
     read.lines().for_each(|line| out.push_str(&format!("#   {line}\n")));
     let _ = writeln!(out, "file {} {{", called);
@@ -54,7 +65,10 @@ pub fn hexadecimal(bytes: &[u8]) -> String {
 /// What the verifier sees in a method; nothing in a file that doesn't read.
 type Seeing = fn(u16, Method) -> (Vec<Seen>, Option<Rejected>);
 
-fn class(sketch: &Sketch, called: Option<&str>, names: &Names, seeing: Seeing, lines: &Lines) -> String {
+/// Where a point of a method stands in the file's bytes.
+type Placing<'a> = &'a dyn Fn(Method, usize) -> usize;
+
+fn class(sketch: &Sketch, called: Option<&str>, names: &Names, seeing: Seeing, words: &Words, place: Placing) -> String {
     let name = |name: Option<u16>| name.map_or("?".into(), |name| names.class(name));
     let called = called.map_or(String::new(), |called| format!(" as {called}"));
     let version = sketch.version.filter(|&version| version >= MAPPED).map_or(String::new(), |version| format!(" version {version}"));
@@ -64,14 +78,14 @@ fn class(sketch: &Sketch, called: Option<&str>, names: &Names, seeing: Seeing, l
     }
     for method in &sketch.methods {
         let _ = writeln!(out, "    method {} {{", names.method(method.signature));
-        out.push_str(&code(*method, names, seeing(sketch.name.unwrap_or(0), *method), lines));
+        out.push_str(&code(*method, names, seeing(sketch.name.unwrap_or(0), *method), words, place));
         out.push_str("    }\n");
     }
     out + "}\n"
 }
 
 /// The points that a jump of the method goes to and that an instruction starts at.
-fn labels(method: Method) -> Vec<usize> {
+pub fn labels(method: Method) -> Vec<usize> {
     let next = |point: &usize| decode(method.version, method.code, *point).map(|(_, next)| next);
     let starts: Vec<usize> = std::iter::successors(Some(0), next).filter(|&point| point < method.code.len()).collect();
     let decoded = starts.iter().filter_map(|&point| decode(method.version, method.code, point)?.0.target());
@@ -79,19 +93,20 @@ fn labels(method: Method) -> Vec<usize> {
 }
 
 /// The instructions and maps of a method, each instruction with what the verifier sees there.
-fn code(method: Method, names: &Names, (points, rejected): (Vec<Seen>, Option<Rejected>), lines: &Lines) -> String {
+fn code(method: Method, names: &Names, (points, rejected): (Vec<Seen>, Option<Rejected>), words: &Words, place: Placing) -> String {
     let mut out = String::new();
     let labels = labels(method);
     let mut maps = method.maps().peekable();
     let mut point = 0;
     while point < method.code.len() {
         if labels.contains(&point) {
-            let _ = writeln!(out, "    L{point}:");
+            let word = words.text.and_then(|text| text.label(place(method, point))).map_or(String::new(), |word| format!("  # {word}"));
+            let _ = writeln!(out, "    L{point}:{word}");
         }
         while let Some(map) = maps.next_if(|map| map.offset() <= point) {
             let _ = writeln!(out, "        {}", mapped(map, point, names));
         }
-        if let Some(line) = lines.at(method.place, point) {
+        if let Some(line) = words.lines.and_then(|lines| lines.at(method.place, point)) {
             let _ = writeln!(out, "        # {line}");
         }
         let seen = points.iter().find(|seen| seen.point == point);

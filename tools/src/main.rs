@@ -2,9 +2,10 @@
 //! installs as `box`, and what ./box builds and runs.
 //! It reads and shows; what is accepted or refused is decided by the proved libraries alone.
 
-use std::io::{self, Read, Write};
+use std::io::{self, IsTerminal, Read, Write};
 use std::path::Path;
 use std::process::ExitCode;
+use std::time::Duration;
 use std::{env, fs};
 
 use writer::check::{check, Verdict};
@@ -72,6 +73,13 @@ fn command(words: &[String]) -> Result<(), Failure> {
             answers(file, &String::from_utf8_lossy(&printed))
         }
         [command @ ("from-java" | "java"), ref rest @ ..] => java(command, rest),
+        ["talk"] => match writer::talk::run() {
+            Err(error) if error.kind() != io::ErrorKind::BrokenPipe => Err(Failure::Usage(format!("box: {error}"))),
+            _ => Ok(()),
+        },
+        ["watch", file] if !file.starts_with('-') => watch(file),
+        ["page"] | ["talk" | "watch", ..] => Err(usage()),
+        ["page", ref rest @ ..] => said(writer::page::make::run(rest)),
         ["list" | "check" | "asm" | "calls" | "answers", ..] => Err(usage()),
         ["why", ref rest @ ..] => play(rest, true),
         ref rest => play(rest, false),
@@ -83,7 +91,12 @@ fn usage() -> Failure {
 }
 
 fn java(command: &str, words: &[&str]) -> Result<(), Failure> {
-    match writer::java::commands::run(command, words) {
+    said(writer::java::commands::run(command, words))
+}
+
+/// What a command says, or why it ends with a status of its own.
+fn said(result: Result<String, (u8, String)>) -> Result<(), Failure> {
+    match result {
         Ok(said) => print(&said),
         Err((1, said)) => Err(Failure::Bad(said)),
         Err((_, said)) => Err(Failure::Usage(said)),
@@ -123,7 +136,8 @@ fn list(input: &Input) -> Result<(), Failure> {
     }
     for piece in &input.pieces {
         out.push('\n');
-        out.push_str(&listing::with_lines(&piece.bytes, &piece.called, &input.names, &piece.lines));
+        let words = listing::Words { lines: Some(&piece.lines), text: piece.text.as_ref() };
+        out.push_str(&listing::with_words(&piece.bytes, &piece.called, &input.names, &words));
     }
     print(&out)
 }
@@ -252,6 +266,27 @@ fn play(words: &[&str], why: bool) -> Result<(), Failure> {
         return is_readable(&source);
     }
     Ok(())
+}
+
+/// Carries out a lesson, and again whenever its file has changed, until the program is ended.
+fn watch(file: &str) -> Result<(), Failure> {
+    let mut last = None;
+    bytes(file)?;
+    loop {
+        // an editor may take a file away for a moment while it saves
+        let now = fs::read(file).ok();
+        if now.is_some() && now != last {
+            if io::stdout().is_terminal() {
+                print("\x1b[2J\x1b[H")?;
+            }
+            if let Err(Failure::Bad(said) | Failure::Usage(said) | Failure::Differ(said)) = play(&[file], false) {
+                eprintln!("{}", said.trim_end());
+            }
+            print(&format!("watching {}; Ctrl-C ends it\n", visible(file)))?;
+            last = now;
+        }
+        std::thread::sleep(Duration::from_millis(200));
+    }
 }
 
 fn end(file: &str, outcome: &Outcome) -> Result<(), Failure> {

@@ -7,10 +7,13 @@ use reference::gen::Call;
 use reference::host::Told;
 use reference::Store;
 
+use crate::advice::advice;
 use crate::check::reason;
 use crate::draw::Strip;
 use crate::lesson::{Act, Doing, Lesson, What};
 use crate::machine;
+use crate::orders::Tried;
+use crate::origins::Origins;
 use crate::rows;
 use crate::source::{visible, Problem, Source};
 use crate::tried::tried;
@@ -38,12 +41,34 @@ pub struct Outcome {
     pub strip: Strip,
 }
 
+/// What is left of calls that were made, for more to go on from.
+#[derive(Clone)]
+pub struct Kept {
+    pub store: Store,
+    origins: Origins,
+    orders: Vec<Tried>,
+    last: Last,
+}
+
+impl Kept {
+    /// Tables of zeros that are booted, as boxscript does.
+    pub fn booted() -> io::Result<Kept> {
+        let mut store = Store::zeros();
+        machine::make(&Call::Boot, &mut store, &mut []).ok_or_else(|| io::Error::other("this build has no machine; use ./box"))?;
+        Ok(Kept { store, origins: Origins::default(), orders: Vec::new(), last: Last::Nothing })
+    }
+}
+
 pub struct Play<'a> {
     source: &'a Source,
     lesson: &'a Lesson,
     show: Show,
     out: &'a mut dyn Write,
     outcome: Outcome,
+    origins: Origins,
+    /// The order that is being carried out, and those before it, to be compared.
+    order: Option<Tried>,
+    orders: Vec<Tried>,
     last: Last,
 }
 
@@ -65,23 +90,63 @@ struct Made {
 }
 
 impl<'a> Play<'a> {
-    /// Carries out the lesson on tables of zeros that are booted first, as boxscript does.
+    /// Carries out the lesson from a boot.
     pub fn run(source: &'a Source, lesson: &'a Lesson, show: Show, out: &'a mut dyn Write) -> io::Result<Outcome> {
-        let outcome = Outcome { store: Store::zeros(), calls: 0, met: 0, failed: 0, reasons: 0, strip: Strip::default() };
-        let mut play = Play { source, lesson, show, out, outcome, last: Last::Nothing };
-        machine::make(&Call::Boot, &mut play.outcome.store, &mut [])
-            .ok_or_else(|| io::Error::other("this build has no machine; use ./box"))?;
-        for act in &lesson.acts {
+        let mut play = Play::new(source, lesson, show, out, Kept::booted()?);
+        play.acts(&lesson.acts)?;
+        Ok(play.outcome)
+    }
+
+    /// Carries out the acts from this one on, after those that led to what is kept: how many acts there are.
+    pub fn go_on(source: &'a Source, lesson: &'a Lesson, show: Show, out: &'a mut dyn Write, kept: &mut Kept, from: usize) -> io::Result<usize> {
+        let mut play = Play::new(source, lesson, show, out, kept.clone());
+        play.acts(lesson.acts.get(from..).unwrap_or_default())?;
+        *kept = Kept { store: play.outcome.store, origins: play.origins, orders: play.orders, last: play.last };
+        Ok(lesson.acts.len())
+    }
+
+    fn new(source: &'a Source, lesson: &'a Lesson, show: Show, out: &'a mut dyn Write, kept: Kept) -> Play<'a> {
+        let Kept { store, origins, orders, last } = kept;
+        let outcome = Outcome { store, calls: 0, met: 0, failed: 0, reasons: 0, strip: Strip::default() };
+        Play { source, lesson, show, out, outcome, origins, order: None, orders, last }
+    }
+
+    fn acts(&mut self, acts: &[Act]) -> io::Result<()> {
+        for act in acts {
             match act {
-                Act::Say(said) => play.say(said)?,
+                Act::Say(said) => self.say(said)?,
                 Act::Do(doing) => {
-                    let made = play.make(doing);
-                    play.write(doing, &made)?;
+                    let made = self.make(doing);
+                    self.write(doing, &made)?;
                 }
-                Act::Repeat { times, acts } => play.repeat(*times, acts)?,
+                Act::Repeat { times, acts } => self.repeat(*times, acts)?,
+                Act::Order { called, acts } => self.order(called, acts)?,
+            }
+            if self.order.is_none() && !matches!(act, Act::Order { .. } | Act::Say(_)) {
+                self.orders.clear();
             }
         }
-        Ok(play.outcome)
+        Ok(())
+    }
+
+    /// Calls in an order, then where its answers part from those of the order before it; what follows begins from the store before them.
+    fn order(&mut self, called: &str, acts: &[Act]) -> io::Result<()> {
+        let before = (self.outcome.store.clone(), self.origins.clone());
+        self.turn_to(Last::Words)?;
+        writeln!(self.out, "order {called}{}", if self.orders.is_empty() { "" } else { ", from the same store" })?;
+        self.order = Some(Tried::new(called));
+        self.acts(acts)?;
+        (self.outcome.store, self.origins) = before;
+        let Some(tried) = self.order.take() else {
+            return Ok(());
+        };
+        if let Some(other) = self.orders.last() {
+            let lines = other.parting(&tried);
+            self.turn_to(Last::Words)?;
+            lines.iter().try_for_each(|line| writeln!(self.out, "{line}"))?;
+        }
+        self.orders.push(tried);
+        Ok(())
     }
 
     /// Leaves a line free between words and calls.
@@ -155,7 +220,7 @@ impl<'a> Play<'a> {
             What::Call(ref call) => Ok(Some(call.clone())),
             What::RecordOf { loader, name, of } => {
                 let class = u16::try_from(of).ok().and_then(|of| self.outcome.store.cached(of, name));
-                let class = class.ok_or_else(|| format!("loader {of} has no {} yet", self.lesson.names.class(name)))?;
+                let class = class.ok_or_else(|| format!("{} has no {} yet", self.lesson.names.loader(of), self.lesson.names.class(name)))?;
                 Ok(Some(Call::Record { loader, name: name.into(), class: class.into() }))
             }
             What::Damage { table, cell, value } => {
@@ -167,8 +232,8 @@ impl<'a> Play<'a> {
 
     /// Says by which chain a load clashed, and draws it.
     fn say_why(&mut self, doing: &Doing, call: &Call, made: &mut Made) {
-        let names = &self.lesson.names;
-        match why(call, &self.outcome.store) {
+        let (names, store) = (&self.lesson.names, &self.outcome.store);
+        match why(call, store) {
             None => {}
             Some(Err(said)) => {
                 self.outcome.failed += 1;
@@ -176,7 +241,8 @@ impl<'a> Play<'a> {
             }
             Some(Ok(why)) => {
                 self.outcome.reasons += 1;
-                made.reason.extend(why.lines(names).iter().map(|line| format!("        {line}\n")));
+                let lines = why.lines(names, |row, constraint| self.origins.told(row, why.is_own(row), call, constraint, store, names));
+                made.reason.extend(lines.into_iter().chain(advice(call, self.lesson, store)).map(|line| format!("        {line}\n")));
                 if self.show.draw {
                     self.outcome.strip.add_reason(&format!("why {} clashes", doing.said), &why, names);
                 }
@@ -191,7 +257,11 @@ impl<'a> Play<'a> {
         };
         let ran = rows::next_instruction(before, names);
         made.answer = words::answer(call, &told, names, ran.as_deref());
+        self.origins.note(call, &told, before, &self.outcome.store, names);
         self.outcome.calls += 1;
+        if let Some(order) = &mut self.order {
+            order.add(&doing.said, &told, &made.answer);
+        }
         for expected in &doing.expected {
             if expected.is_met(&told) {
                 self.outcome.met += 1;

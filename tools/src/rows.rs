@@ -4,7 +4,7 @@ use std::fmt::Write;
 
 use reference::broken::unbroken;
 use reference::classes::Classes;
-use reference::store::{cell, count, frame_base, FRAME_ROW, LENGTHS, LOCALS, TABLES, TASKS};
+use reference::store::{cell, count, frame_base, FRAME_ROW, LENGTHS, LOCALS, OBJECT, OPERANDS, TABLES, TASKS};
 use reference::store::{Store, Value};
 
 use crate::listing;
@@ -28,7 +28,11 @@ impl Row {
 /// What changed, a line a row: + new, ~ changed, - gone. Of tables that are no store, the cells that changed.
 pub fn changes(before: &Store, after: &Store, names: &Names) -> Vec<String> {
     match (unbroken(before), unbroken(after)) {
-        (Some(then), Some(now)) => row_changes(&rows(before, &then, names), &rows(after, &now, names)),
+        (Some(then), Some(now)) => {
+            let mut lines = row_changes(&rows(before, &then, names), &rows(after, &now, names));
+            lines.extend(load_changes(before, after));
+            lines
+        }
         (then, now) => {
             let mut lines = cell_changes(before, after);
             match (then.is_some(), now.is_some()) {
@@ -38,6 +42,14 @@ pub fn changes(before: &Store, after: &Store, names: &Names) -> Vec<String> {
             }
             lines
         }
+    }
+}
+
+/// All that a store holds, a line a row.
+pub fn listed(store: &Store, names: &Names) -> Vec<String> {
+    match unbroken(store) {
+        Some(classes) => rows(store, &classes, names).iter().map(|row| format!("{} {}: {}", row.kind, row.number, row.says)).collect(),
+        None => vec!["the tables are no store: broken".into()],
     }
 }
 
@@ -60,6 +72,16 @@ fn row_changes(before: &[Row], after: &[Row]) -> Vec<String> {
     lines
 }
 
+/// How many loads can be taken back, where that changed, or the oldest was pushed out.
+fn load_changes(before: &Store, after: &Store) -> Option<String> {
+    let (then, now) = (before.levels(), after.levels());
+    match (then.len(), now.len()) {
+        _ if then == now => None,
+        (then, now) if then == now => Some(format!("~ loads that can be taken back: {now}, and the oldest no longer")),
+        (then, now) => Some(format!("~ loads that can be taken back: {then}, now {now}")),
+    }
+}
+
 fn cell_changes(before: &Store, after: &Store) -> Vec<String> {
     let mut lines = Vec::new();
     for (table, ((name, _), length)) in TABLES.iter().zip(LENGTHS).enumerate() {
@@ -78,13 +100,14 @@ fn rows(store: &Store, classes: &Classes, names: &Names) -> Vec<Row> {
         add("class", class.into(), class_says(store, class, names));
     }
     for (place, [loader, name, class]) in store.cache_rows().enumerate() {
-        add("cache", place, format!("loader {loader} means class {class} by {}", names.class(name)));
+        add("cache", place, format!("{} means class {class} by {}", names.loader(loader), names.class(name)));
     }
     for ((place, [one, other, name]), row) in store.tie_rows().enumerate().zip(store.tie_numbers()) {
-        add("tie", place, format!("{} is one class under loaders {one} and {other}, row {row}", names.class(name)));
+        add("tie", place, format!("{} is one class under {}, row {row}", names.class(name), names.loaders(one, other)));
     }
     for ((place, [loader, lower, higher]), row) in store.subtype_rows().enumerate().zip(store.subtype_numbers()) {
-        let says = format!("under loader {loader}, {} is below {}, row {row}", names.class(lower), names.class(higher));
+        let (loader, lower, higher) = (names.loader(loader), names.class(lower), names.class(higher));
+        let says = format!("under {loader}, {lower} is below {higher}, row {row}");
         add("subtype constraint", place, says);
     }
     for object in store.objects_in_use() {
@@ -98,12 +121,12 @@ fn rows(store: &Store, classes: &Classes, names: &Names) -> Vec<Row> {
     rows
 }
 
-fn class_says(store: &Store, class: u16, names: &Names) -> String {
+pub fn class_says(store: &Store, class: u16, names: &Names) -> String {
     let Some(file) = store.file(class) else {
-        return "Object of loader 0".into();
+        return names.request(0u16, OBJECT.into());
     };
-    let (name, above) = (names.class(file.name()), names.class(file.superclass()));
-    let mut says = format!("{name} of loader {}, below {above}", store.loader_of(class));
+    let own = names.request(store.loader_of(class), file.name().into());
+    let mut says = format!("{own}, below {}", names.class(file.superclass()));
     for field in file.fields() {
         let _ = write!(says, ", field {} {}", names.member(field.name), names.class(field.of));
     }
@@ -123,7 +146,7 @@ fn value(cells: &[u32], at: usize) -> String {
     }
 }
 
-fn object_says(store: &Store, classes: &Classes, object: u32, names: &Names) -> String {
+pub fn object_says(store: &Store, classes: &Classes, object: u32, names: &Names) -> String {
     let class = store.object_class(object);
     let mut fields = Vec::new();
     let mut upward: Vec<u16> = classes.upward(class).collect();
@@ -151,14 +174,24 @@ fn frame_says(store: &Store, task: usize, depth: usize, names: &Names) -> String
     let place = method.map_or("no method".into(), |method| names.method(method.signature));
     let next = method.and_then(|method| listing::readable_at(method, point, names, &[]));
     let next = next.map_or("nothing".into(), |(instruction, _)| instruction);
-    let values = |first: usize, count: usize| (0..count).map(|i| value(frame, first + 2 * i)).collect::<Vec<_>>();
-    let mut locals = values(cell::LOCAL_0, LOCALS);
+    let (operands, locals) = (operands(store, base), locals(store, base));
+    let class = names.class(store.name_of(class));
+    format!("{class}.{place} at {point}, next {next}; operands [{}] locals {{{}}}", operands.join(", "), locals.join(", "))
+}
+
+/// The operands of the frame at this cell, the lowest first.
+pub fn operands(store: &Store, base: usize) -> Vec<String> {
+    let count = (store.frames[base + cell::OPERANDS] as usize).min(OPERANDS);
+    (0..count).map(|place| value(&store.frames, base + cell::OPERAND_0 + 2 * place)).collect()
+}
+
+/// The locals of the frame at this cell, up to the last that is set.
+pub fn locals(store: &Store, base: usize) -> Vec<String> {
+    let mut locals: Vec<String> = (0..LOCALS).map(|place| value(&store.frames, base + cell::LOCAL_0 + 2 * place)).collect();
     while locals.last().is_some_and(|local| local == "-") {
         locals.pop();
     }
-    let operands = values(cell::OPERAND_0, frame[cell::OPERANDS] as usize);
-    let class = names.class(store.name_of(class));
-    format!("{class}.{place} at {point}, next {next}; operands [{}] locals {{{}}}", operands.join(", "), locals.join(", "))
+    locals
 }
 
 /// The instruction that the next step takes, and its task.

@@ -61,12 +61,12 @@ pub fn lesson(source: &Source, names: Names) -> Lesson {
     let act = |(line, call): (&str, Option<Call>)| match call {
         Some(call) => {
             let (said, span) = (words::call(&call, &names), span(&source.text, line));
-            Act::Do(Doing { said, what: What::Call(call), span, expected: Vec::new() })
+            Act::Do(Doing { said, what: What::Call(call), span, expected: Vec::new(), asked: false })
         }
         None => Act::Say(UNREADABLE.into()),
     };
     let acts = lines(&source.text).into_iter().map(act).collect();
-    Lesson { names, texts: Vec::new(), acts }
+    Lesson { names, acts, ..Lesson::default() }
 }
 
 /// The script as the program boxscript reads it: plain line ends, no byte order mark.

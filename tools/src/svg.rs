@@ -71,7 +71,7 @@ impl Age {
 pub const COLOURS: [&str; 8] = ["#8be3ff", "#f3e362", "#f97486", "#b1fcac", "#649ef3", "#e5b35f", "#b99cc6", "#8fc5ae"];
 
 /// Patterns that lie over a fill where a picture has more classes than colours; the first is none.
-const PATTERNS: [&str; 8] = [
+pub const PATTERNS: [&str; 8] = [
     "",
     "M0 12L12 0M-2 2L2 -2M10 14L14 10",
     "M0 6H12",

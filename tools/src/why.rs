@@ -104,8 +104,8 @@ impl Why {
         self.definers.get(usize::from(class)).copied().unwrap_or(newcomer)
     }
 
-    /// The chain in words, a line for its ends, one for each row, and one for what it demands.
-    pub fn lines(&self, names: &Names) -> Vec<String> {
+    /// The chain in words, a line for its ends, one for each row and one for where that comes from, and one for what it demands.
+    pub fn lines(&self, names: &Names, origin: impl Fn(u16, Constraint) -> Option<String>) -> Vec<String> {
         let (first, last) = (self.requests[0], self.requests[self.requests.len() - 1]);
         let count = counted(self.rows.len(), "row");
         let verb = if self.rows.len() == 1 { "leads" } else { "lead" };
@@ -117,6 +117,7 @@ impl Why {
                 (false, None) => ", that the step would post",
             };
             lines.push(format!("  row {row}{own}: {}; on to {}", said(constraint, names), self.place(to, names)));
+            lines.extend(origin(row, constraint).map(|origin| format!("    {origin}")));
         }
         lines.push(self.demand());
         lines
@@ -126,7 +127,7 @@ impl Why {
     fn place(&self, ((loader, name), class): (Request, Option<u16>), names: &Names) -> String {
         let class = class.map_or("not loaded".into(), |class| format!("class {class}"));
         let new = if Some((loader, name)) == self.newcomer { ", as it would be" } else { "" };
-        format!("{} of loader {loader} ({class}{new})", names.class(name))
+        format!("{} ({class}{new})", names.request(loader, name.into()))
     }
 
     /// What the chain demands of the classes at its ends, which they aren't.
@@ -153,9 +154,9 @@ impl Why {
 
 fn said(constraint: Constraint, names: &Names) -> String {
     match constraint {
-        Constraint::Tie([one, other, name]) => format!("a tie, {} is one class under loaders {one} and {other}", names.class(name)),
+        Constraint::Tie([one, other, name]) => format!("a tie, {} is one class under {}", names.class(name), names.loaders(one, other)),
         Constraint::Subtype([loader, low, high]) => {
-            format!("a subtype constraint, {} is below {} under loader {loader}", names.class(low), names.class(high))
+            format!("a subtype constraint, {} is below {} under {}", names.class(low), names.class(high), names.loader(loader))
         }
     }
 }

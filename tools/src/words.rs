@@ -31,14 +31,14 @@ pub fn call(call: &Call, names: &Names) -> String {
         Call::Boot => "boot".into(),
         Call::Define { loader, ref file } => {
             let name = reference::file::Sketch::read(file).name;
-            format!("loader {loader} defines {}", name.map_or("a file".into(), |name| names.class(name)))
+            format!("{} defines {}", names.loader(loader), name.map_or("a file".into(), |name| names.class(name)))
         }
         Call::Record { loader, name, class: number } => {
-            format!("loader {loader} records {} as {number}", class(names, name))
+            format!("{} records {} as {number}", names.loader(loader), class(names, name))
         }
         Call::Start { task: number, loader, name, method, int } => {
             let (class, method) = (names.class(name), names.member(method));
-            format!("{} starts {loader} {class}.{method} {}", task(number), int as i32)
+            format!("{} starts {} {class}.{method} {}", task(number), names.bare_loader(loader), int as i32)
         }
         Call::Step => "step".into(),
         Call::Run { n } => format!("run {n}"),
@@ -52,9 +52,10 @@ pub fn call(call: &Call, names: &Names) -> String {
     }
 }
 
-fn refused(number: u32, [one, two]: [u32; 2], names: &Names) -> String {
+/// A refusal: its number, its word, and what is wanted.
+pub fn refused(number: u32, [one, two]: [u32; 2], names: &Names) -> String {
     if number == u32::from(word::WANTED) {
-        return format!("refused: 5, wanted: {} of loader {one}", class(names, two));
+        return format!("refused: 5, wanted: {}", names.request(one, two));
     }
     let said = usize::try_from(number).ok().and_then(|number| word::NAMES.get(number.checked_sub(1)?));
     format!("refused: {number}, {}", said.unwrap_or(&"a word that this program doesn't know"))

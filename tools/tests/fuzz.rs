@@ -13,12 +13,22 @@ use writer::input;
 use writer::lesson::Lesson;
 use writer::listing::listing;
 use writer::names::Names;
+use writer::page::page;
 use writer::play::{Play, Show};
 use writer::script;
 use writer::source::Source;
+use writer::talk::Talk;
 
 /// Pieces that make sense somewhere.
-const WORDS: [&str; 43] = [
+const WORDS: [&str; 52] = [
+    "insurer Red 2\n",
+    "insurer Blue\nready Blue 1 2\n",
+    "Red defines ",
+    "order A {\n",
+    "mistake compares-by-name\n",
+    "mistake sweep-frees-all\n",
+    "ask ",
+    "> </script><script>\n",
     "version 2 ",
     "version 3 ",
     "again: ",
@@ -54,6 +64,7 @@ const WORDS: [&str; 43] = [
     "run 65535\n",
     "step\n",
     "sweep\n",
+    "take back\n",
     "damage counts 9 1\n",
     "quote ",
     "-2147483649 ",
@@ -112,6 +123,11 @@ fn try_all(name: &str, bytes: Vec<u8>) {
         Err((source, problems)) => assert!(source.show_all(&problems).contains(" | ")),
     }
     let lossy = String::from_utf8_lossy(&bytes).into_owned();
+    // those write files
+    if !lossy.contains("save") && !lossy.contains("draw") {
+        let talked = Talk::new(&mut io::sink()).and_then(|mut talk| talk.talk(&mut &bytes[..], false));
+        talked.expect("a talk that ends with its input");
+    }
     drop(script::beside(&lossy, "R 0 0 0 0\nN 5 1 2 3\nD", &Names::default()));
     match Source::new(name, bytes) {
         Ok(source) => {
@@ -123,6 +139,8 @@ fn try_all(name: &str, bytes: Vec<u8>) {
                         let outcome = Play::run(&source, &lesson, Show { store: true, draw: true, why }, &mut io::sink());
                         drop(outcome.expect("a machine").strip.svg());
                     }
+                    let made = page(&source, &lesson, name, None).expect("a machine");
+                    assert_eq!(made.html.matches("</script>").count(), 2, "a lesson ends the page's script");
                 }
                 Err(problems) => assert!(source.show_all(&problems).contains(" | ")),
             }

@@ -28,10 +28,10 @@ fn every_lesson_passes() {
     }
 }
 
-/// The text with the expectation at this place made one that no lesson has.
+/// The text with the expectation at this place made one that no call answers with.
 fn changed(source: &Source, at: usize) -> Source {
     let end = source.text[at..].find('\n').map_or(source.text.len(), |more| at + more);
-    let text = format!("{}expect misnamed{}", &source.text[..at], &source.text[end..]);
+    let text = format!("{}expect hidden{}", &source.text[..at], &source.text[end..]);
     Source { file: source.file.clone(), text }
 }
 

@@ -68,3 +68,30 @@ fn a_step_is_explained() {
     }
     assert!(outcome.strip.svg().contains("tie, row 1, its own"));
 }
+
+/// In insurers' words, with where each row comes from: a step within a run, an override; and what would be accepted.
+#[test]
+fn a_row_says_where_it_comes_from() {
+    let text = "insurer Broker\ninsurer Red\nname Discount Tariff Policy best rate\n\
+        class Tariff extends Object { field best Discount }\n\
+        class Policy extends Object { method rate(int) int { new Tariff  getfield Tariff.best Discount  pop  iload 1  ireturn } }\n\
+        class Discount extends Object { }\n\
+        ready Broker Red\nBroker defines Tariff\nRed records Tariff of Broker\nRed defines Policy\n\
+        quote starts Red Policy.rate 7\nrun 100\nBroker defines Discount\nRed defines Discount expect clash\n\
+        Red records Discount of Broker\n";
+    let (said, outcome) = played(&Source { file: "a".into(), text: text.into() });
+    assert_eq!(outcome.failed, 0, "{said}");
+    for line in [
+        "from Broker's Discount (class 3) to Red's Discount (class 4, as it would be)",
+        "row 0: a tie, Discount is one class under Broker and Red; on to Red's Discount (class 4, as it would be)",
+        "posted by call 7, the quote's step 2: getfield Tariff.best Discount (quote)",
+        "tried here, and would be accepted: Red records Discount of Broker\n",
+    ] {
+        assert!(said.contains(line), "{line}\n{said}");
+    }
+    let path = common::examples("lesson").into_iter().find(|path| path.ends_with("two-orders.lesson")).expect("the lesson");
+    let (said, outcome) = played(&common::source(&path));
+    assert_eq!(outcome.reasons, 2, "{said}");
+    assert_eq!(said.matches("RedTariff.apply overrides Tariff.apply").count(), 2, "{said}");
+    assert_eq!(said.matches("posted by call 5: RedTariff.apply").count(), 1, "{said}");
+}

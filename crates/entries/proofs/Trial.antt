@@ -16,24 +16,23 @@ use Rattle.definition.specs.Requests.{Request, at}
 use Rattle.definition.specs.Classes.{Base, Class, Entry, superOf, find, lower}
 use Rattle.definition.specs.Constraints.{World}
 use Rattle.definition.specs.declared.Check.{Check}
-use Rattle.definition.specs.Checks.{NamesOver, Names}
-use Rattle.definition.specs.Loading.{withEntry}
-use Rattle.definition.specs.Numbers.{tieNumbersCell, subtypeNumbersCell, countsLength}
-use Rattle.definition.specs.Tables.{RowNumbers, rowNumbers, putThree, entry, entryAt, putEntry, tieAt, subtypeAt, numberAt, classRowAt}
+use Rattle.definition.specs.Checks.{NamesOver}
+use Rattle.definition.specs.Numbers.{countsLength}
+use Rattle.definition.specs.Tables.{RowNumbers, putThree, entry, entryAt, putEntry, tieAt, subtypeAt, classRowAt}
 use Rattle.definition.specs.Broken.{numbered}
 use Rattle.definition.specs.Reasons.{tieLinks, subtypeLinks, reasonOver, reason}
 use Rattle.laws.specs.Agreement.{super-falls, find-more}
 use Rattle.laws.specs.Earlier.{rowBefore}
-use Rattle.layout.specs.Places.{rows-getD, rows-cong, rows-length, writeRows-length}
+use Rattle.layout.specs.Places.{rows-getD, rows-length, writeRows-length}
 use Rattle.layout.specs.Cells.{entry-rows, rows-after-last}
 use Rattle.resolution.specs.Quick.{quickClass, quickBase}
 use Rattle.resolution.specs.Lookups.{superCell, cell-none, cell-some}
-use Rattle.constraints.specs.Agreement.{superIn, entriesIn, tiesIn, edgesIn, newOf, newIn}
+use Rattle.constraints.specs.Agreement.{superIn, newOf, newIn}
 use Rattle.laws.specs.Options.{nth-last}
 use Rattle.rows.specs.Numbers.{numbersFit}
 use Rattle.constraints.specs.Linking.{reasonIn}
-use Rattle.constraints.specs.Laws.{within, names-store}
-use Rattle.entries.specs.World.{worldIn, numbersIn, baseWith, Searchable, Loadable}
+use Rattle.constraints.specs.Laws.{within}
+use Rattle.entries.specs.World.{numbersIn, baseWith, Searchable}
 use Rattle.entries.specs.Entering.{Entered}
 use Rattle.entries.proofs.Laws.{written-front, copied}
 

@@ -6,4 +6,10 @@ pub mod Decisions
 pub mod Steps
 pub mod Turns
 pub mod Runs
+pub mod Opcodes
+pub mod RowCells
+pub mod Plain
+pub mod Parts
+pub mod Ahead
+pub mod Walks
 pub mod Starts

@@ -4,6 +4,9 @@ mod deciding; // deciding.rt: the decision on the instruction of a top frame
 mod entering; // entering.rt: a frame entered with its arguments
 mod carrying; // carrying.rt: the one place that writes
 mod turns; // turns.rt: one step, of the task whose turn it is
+mod opcodes; // opcodes.rt: the opcodes by small numbers
+mod walking; // walking.rt: instructions that touch their frame alone, done on its row
+mod ahead; // ahead.rt: steps of the top frame that touch it alone
 mod runs; // runs.rt: a run of steps
 mod starting; // starting.rt: the start of a task
 

@@ -1,5 +1,8 @@
 // A run of steps.
+use crate::ahead::go_ahead;
+use crate::ahead::last_of;
 use crate::deciding::Room;
+use crate::opcodes::OPCODE_NUMBERS;
 use crate::turns::step_unbroken;
 use definition::Answer;
 use definition::Refusal;
@@ -13,6 +16,7 @@ ghost use Rattle.definition.specs.Numbers.{objectLimit};
 ghost use Rattle.definition.specs.Tables.{tables};
 ghost use Rattle.definition.specs.Broken.{broken};
 ghost use Rattle.definition.specs.Calls.{done, stepTables, runFrom, run};
+ghost use Rattle.execution.specs.Opcodes.{numbers};
 ghost use Rattle.execution.specs.Runs.{goesOn, Ruled, RoomIn, RoomAfter};
 
 fn is_ran(a: Answer) -> bool
@@ -60,7 +64,8 @@ fn next_room(counts: &[u16], room: Room, turn: u8) -> Room
     }
 }
 
-// Up to n steps of a store that is not broken: a step leaves it so, and it isn't tested again. Nor are the report's objects counted again.
+// Up to n steps of a store that is not broken: a step leaves it so, and it isn't tested again. Nor are the report's objects counted again. After a step those that
+// touch their frame alone are done at once, one after another.
 fn steps(
     counts: &mut [u16],
     classes: &[u16],
@@ -70,9 +75,10 @@ fn steps(
     subtypes: &[u16],
     objects: &mut [u32],
     frames: &mut [u32],
+    opcodes: &[u8],
     n: u16,
 ) -> Reply
-    requires { ⌜ broken (tables (now counts) (now classes) (now kept) (now cache) (now ties) (now subtypes) (now objects) (now frames)) ≡ false ⌝ }
+    requires { ⌜ (broken (tables (now counts) (now classes) (now kept) (now cache) (now ties) (now subtypes) (now objects) (now frames)) ≡ false) × (now opcodes ≡ numbers) ⌝ }
     ensures { λ r. ⌜ done r (tables (now (counts .exit)) (now (classes .entry)) (now (kept .entry)) (now (cache .entry)) (now (ties .exit)) (now (subtypes .entry)) (now (objects .exit)) (now (frames .exit))) ≡ runFrom stepTables n 0 Answer.Idle (tables (now (counts .entry)) (now (classes .entry)) (now (kept .entry)) (now (cache .entry)) (now (ties .entry)) (now (subtypes .entry)) (now (objects .entry)) (now (frames .entry))) ⌝ }
 {
     let mut k: u16 = 0;
@@ -95,8 +101,10 @@ fn steps(
             return Reply::RanFor(k, a);
         }
         room = next_room(counts, room, turn);
-        last = a;
         k += 1;
+        let more = go_ahead(counts, classes, kept, frames, opcodes, n - k);
+        last = last_of(counts, more, a);
+        k += more;
     }
     Reply::RanFor(k, last)
 }
@@ -161,6 +169,7 @@ pub fn run(
     if word != 0 {
         return Reply::Denied(Refusal::Word(word));
     }
+    let opcodes = OPCODE_NUMBERS;
     steps(
         counts,
         classes,
@@ -170,6 +179,7 @@ pub fn run(
         subtypes,
         objects,
         frames,
+        &opcodes,
         n as u16,
     )
 }

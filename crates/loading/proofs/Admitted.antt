@@ -12,9 +12,9 @@ use Rattle.definition.specs.declared.Reply.{Reply}
 use Rattle.definition.specs.declared.Reply.the-variants.{Accepted, Defined, Denied}
 use Rattle.definition.specs.Answers.{Result, refused, number, numberOf}
 use Rattle.definition.specs.Constraints.{agrees}
-use Rattle.definition.specs.Tables.{Tables, Rows, view, worldOf}
+use Rattle.definition.specs.Tables.{Tables, Rows, view}
 use Rattle.definition.specs.Broken.{broken}
-use Rattle.definition.specs.Calls.{Given, wrap, Load, loadRows}
+use Rattle.definition.specs.Calls.{Given, Load, loadRows}
 use Rattle.definition.specs.Reasons.{reason, unlisted, listed, tryLoad}
 use Rattle.laws.specs.Refusals.{Refuses}
 use Rattle.resolution.specs.Quick.{quickBase}

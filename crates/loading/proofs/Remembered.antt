@@ -1,11 +1,11 @@
 -- A load remembered before its counts are written is remembered as the definition puts it: counts and numbers lie before the trace, so the order makes no difference.
 use mathlib.Core.Path.{_≡_, refl, sym, ap, _∙_}
 use mathlib.Core.List.{List, [], _∷_}
-use Prim.Native.Nat.{ℕ, zero, suc, _+_, _*_, _-_, _<_, _≤_}
+use Prim.Native.Nat.{ℕ, suc, _+_, _*_, _-_, _≤_}
 use native.Mathlib.Omega.{arith}
 use lib.ListN.{length, getD, set, take}
 use Rattle.definition.specs.Numbers.{tieNumbersCell, subtypeNumbersCell, loadsCell, traceCell, levelCells, traceLimit}
-use Rattle.definition.specs.Lists.{rows, writeRows, stack, writeStack}
+use Rattle.definition.specs.Lists.{writeRows, stack, writeStack}
 use Rattle.definition.specs.Classes.{Base}
 use Rattle.definition.specs.Tables.{Tables, Level, level, levelOf, levelAt, putLevel, putTrace, putNumber, classRowAt, entryAt, tieAt, subtypeAt, viewOver}
 use Rattle.definition.specs.Calls.{numbersFrom}

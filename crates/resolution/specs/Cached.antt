@@ -1,6 +1,6 @@
 -- The row of the cache in which a request stands first. A lookup is that row's class; so is a lookup in the first rows alone, if the row is one of them. A class's
 -- superclass by the row of its entry.
-use mathlib.Core.Path.{_≡_, refl, sym, ap, _∙_}
+use mathlib.Core.Path.{_≡_, refl, ap, _∙_}
 use mathlib.Core.Bool.{Bool, true, false}
 use mathlib.Core.Option.{Option, none, some, Option·none-ne-some}
 use mathlib.Core.List.{List, [], _∷_}

@@ -120,7 +120,11 @@ pub fn is_below(counts: &[u16], classes: &[u16], kept: &[u8], cache: &[u16], c: 
 fn super_cell(counts: &[u16], classes: &[u16], kept: &[u8], cache: &[u16], c: u8) -> u8
     ensures { λ r. ⌜ r ≡ superCell (quickBase (now (counts .entry)) (now (classes .entry)) (now (kept .entry)) (now (cache .entry))) c ⌝ }
 {
-    let Found::At(p) = super_of(counts, classes, kept, cache, cells::from16(cells::from8(c))) else {
+    let n = cells::from16(cells::from8(c));
+    if !is_class(counts, n) {
+        return 0;
+    }
+    let Found::At(p) = super_of(counts, classes, kept, cache, n) else {
         return 0;
     };
     (p + 1) as u8

@@ -1,6 +1,6 @@
 -- Posting: when a constraint is there already, and what is written where one is added.
 use mathlib.Core.Path.{_≡_, refl, sym, _∙_}
-use mathlib.Core.Bool.{Bool, true, false, true≢false, _&&_, _||_}
+use mathlib.Core.Bool.{Bool, true, false, true≢false, _&&_}
 use mathlib.Core.List.{List, [], _∷_, _++_}
 use Prim.Native.Nat.{ℕ, _+_, _-_, _*_}
 use native.Mathlib.Omega.{arith}
@@ -8,11 +8,11 @@ use lib.ListN.{length, getD}
 use lib.Dec.{eqb}
 use borrow.Author.Tests.{eq-eqb, ne-eqb}
 use Rattle.definition.specs.Lists.{any, rows, writeRows}
-use Rattle.definition.specs.Constraints.{Tie, Subtype, tieIs, newTie}
+use Rattle.definition.specs.Constraints.{Subtype, tieIs}
 use Rattle.definition.specs.Loading.{subtypeIs, subtypeOf, newSubtypes}
 use Rattle.definition.specs.Verifier.{Note}
-use Rattle.definition.specs.Tables.{tie, tieAt, putTie, subtypeAt, putSubtype, putThree}
-use Rattle.rows.specs.Posting.{newTieIn, note, newSubtypesIn, tiesAfter, subtypesAfter}
+use Rattle.definition.specs.Tables.{tieAt, subtypeAt, putSubtype, putThree}
+use Rattle.rows.specs.Posting.{note, newSubtypesIn, subtypesAfter}
 
 -- a search of n rows begins
 pub any-start : {A : Type 0} (f : A → Bool) (g : ℕ → A) (n m : ℕ) → n ≡ m → any f (rows g (n - 0) 0) ≡ any f (rows g m 0)
@@ -63,47 +63,6 @@ module _ (t : List ℕ) (i l a b : ℕ) where
       go true true q = refl
       go true false q = absurd (true≢false (sym q))
       go false z q = absurd (true≢false (sym q))
-
--- A tie
-
-module _ (t : List ℕ) (c l m n r : ℕ) where
-  -- none is added
-  abbrev TieSame : Type 0
-  TieSame = (r ≡ c + length (newTieIn t c l m n)) × (t ≡ tiesAfter t c (newTieIn t c l m n))
-
-  tie-same : newTieIn t c l m n ≡ [] → r ≡ c → TieSame
-  unfolding tiesAfter writeRows
-  tie-same e q = rw e (omega arith, refl)
-
-  pub tie-alone : l ≡ m → r ≡ c → TieSame
-  unfolding newTieIn newTie
-  tie-alone e = tie-same (rw (eq-eqb l m e, newTie) refl)
-
-  pub tie-int : n ≡ 1 → r ≡ c → TieSame
-  unfolding newTieIn newTie
-  tie-int e = tie-same (go (eqb l m) (eqb n 1) (eq-eqb n 1 e))
-    where
-      go : (a b : Bool) → b ≡ true → _≡_ {A = List Tie}
-          (elim (a || b || any (tieIs l m n) (rows (tieAt t) c 0)) as (λ _. List Tie) [ true ↦ [] | false ↦ tie l m n ∷ [] ]) []
-      go true b h = refl
-      go false b h = rw h refl
-
-  pub tie-there : any (tieIs l m n) (rows (tieAt t) c 0) ≡ true → r ≡ c → TieSame
-  unfolding newTieIn newTie
-  tie-there e = tie-same (go (eqb l m || eqb n 1) (any (tieIs l m n) (rows (tieAt t) c 0)) e)
-    where
-      go : (a b : Bool) → b ≡ true → _≡_ {A = List Tie} (elim (a || b) as (λ _. List Tie) [ true ↦ [] | false ↦ tie l m n ∷ [] ]) []
-      go true b h = refl
-      go false b h = rw h refl
-
-  pub tie-new : (u : List ℕ) → (l ≡ m → ⊥) → (n ≡ 1 → ⊥) → any (tieIs l m n) (rows (tieAt t) c 0) ≡ false → r ≡ c → u ≡ putThree t c l m n
-      → (r + 1 ≡ c + length (newTieIn t c l m n)) × (u ≡ tiesAfter t c (newTieIn t c l m n))
-  unfolding newTieIn newTie tiesAfter writeRows putTie
-  tie-new u p q e z w = rw (one (eqb l m) (eqb n 1) (any (tieIs l m n) (rows (tieAt t) c 0)) (ne-eqb l m p) (ne-eqb n 1 q) e) (omega arith, w)
-    where
-      one : (a b d : Bool) → a ≡ false → b ≡ false → d ≡ false
-          → _≡_ {A = List Tie} (elim (a || b || d) as (λ _. List Tie) [ true ↦ [] | false ↦ tie l m n ∷ [] ]) (tie l m n ∷ [])
-      one a b d x y z = rw (x, y, z) refl
 
 -- A subtype constraint
 

@@ -2,7 +2,7 @@
 use mathlib.Core.Path.{_≡_, refl, sym, ap, _∙_}
 use mathlib.Core.Bool.{Bool, true, false, _||_}
 use mathlib.Core.List.{List, [], _∷_, _++_}
-use Prim.Native.Nat.{ℕ, suc, _+_, _*_, _<_, _≤_}
+use Prim.Native.Nat.{ℕ, suc, _+_, _<_, _≤_}
 use native.Mathlib.Omega.{arith}
 use lib.ListN.{length}
 use lib.Dec.{eqb, leb}
@@ -11,10 +11,10 @@ use Rattle.definition.specs.Lists.{any, rows, writeRows}
 use Rattle.definition.specs.Constraints.{Tie, Subtype, tieIs, newTie}
 use Rattle.definition.specs.Loading.{subtypeIs, subtypeOf, newSubtypes}
 use Rattle.definition.specs.Verifier.{Note}
-use Rattle.definition.specs.Tables.{tieAt, subtypeAt, putSubtype}
+use Rattle.definition.specs.Tables.{subtypeAt, putSubtype}
 use Rattle.layout.specs.Places.{writeRows-length}
-use Rattle.layout.specs.Cells.{tie-rows, subtype-rows, rows-after-last, rows-after-more, rows-parts}
-use Rattle.rows.specs.Posting.{tiesAfter, newSubtypesIn, subtypesAfter, Noted, noted, postNote, postNotes}
+use Rattle.layout.specs.Cells.{subtype-rows, rows-after-last, rows-parts}
+use Rattle.rows.specs.Posting.{newSubtypesIn, subtypesAfter, Noted, noted, postNote, postNotes}
 
 -- Ties
 
@@ -26,17 +26,6 @@ tie-few ts l m n = go (eqb l m || eqb n 1 || any (tieIs l m n) ts)
     go : (t : Bool) → length {A = Tie} (elim t as (λ _. List Tie) [ true ↦ [] | false ↦ record { one = l; two = m; name = n } ∷ [] ]) ≤ 1
     go true = omega arith
     go false = omega arith
-
--- the rows that a table with room then has
-pub ties-seen : (t : List ℕ) (count : ℕ) (new : List Tie) → (count + length new) * 3 ≤ length t
-    → rows (tieAt (tiesAfter t count new)) (count + length new) 0 ≡ rows (tieAt t) count 0 ++ new
-unfolding tiesAfter
-ties-seen t count new h = rows-after-more tie-rows new t count h
-
-pub subtypes-seen : (t : List ℕ) (count : ℕ) (new : List Subtype) → (count + length new) * 3 ≤ length t
-    → rows (subtypeAt (subtypesAfter t count new)) (count + length new) 0 ≡ rows (subtypeAt t) count 0 ++ new
-unfolding subtypesAfter
-subtypes-seen t count new h = rows-after-more subtype-rows new t count h
 
 -- Notes posted one after the other
 

@@ -6,14 +6,10 @@ use lib.ListN.{length}
 use lib.Dec.{leb}
 use Rattle.definition.specs.Numbers.{subtypeLimit}
 use Rattle.definition.specs.Lists.{rows, writeRows}
-use Rattle.definition.specs.Constraints.{Tie, Subtype, newTie}
+use Rattle.definition.specs.Constraints.{Subtype}
 use Rattle.definition.specs.Loading.{newSubtypes}
-use Rattle.definition.specs.Tables.{tieAt, subtypeAt, putTie, putSubtype}
+use Rattle.definition.specs.Tables.{subtypeAt, putSubtype}
 use Rattle.definition.specs.Verifier.{Note}
-
--- the tie that is added to the first rows of a table, if any
-unfoldable pub newTieIn : List ℕ → ℕ → ℕ → ℕ → ℕ → List Tie
-newTieIn t count one two name = newTie (rows (tieAt t) count 0) one two name
 
 abbrev pub note : ℕ → ℕ → Note
 note low high = record { low = low; high = high }
@@ -23,9 +19,6 @@ unfoldable pub newSubtypesIn : List ℕ → ℕ → ℕ → List Note → List S
 newSubtypesIn t count loader notes = newSubtypes (rows (subtypeAt t) count 0) loader notes
 
 -- the rows behind the first ones
-unfoldable pub tiesAfter : List ℕ → ℕ → List Tie → List ℕ
-tiesAfter t count new = writeRows putTie new count t
-
 unfoldable pub subtypesAfter : List ℕ → ℕ → List Subtype → List ℕ
 subtypesAfter t count new = writeRows putSubtype new count t
 

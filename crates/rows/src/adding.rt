@@ -17,7 +17,7 @@ ghost use Rattle.definition.specs.Lists.{rows, any};
 ghost use Rattle.definition.specs.Constraints.{tieIs};
 ghost use Rattle.definition.specs.Loading.{subtypeIs};
 ghost use Rattle.definition.specs.Tables.{tieAt, subtypeAt};
-ghost use Rattle.rows.specs.Posting.{newTieIn, newSubtypesIn, note, tiesAfter, subtypesAfter, noted, postNote};
+ghost use Rattle.rows.specs.Posting.{newSubtypesIn, note, subtypesAfter, noted, postNote};
 
 // Two cells are equal to these two.
 fn are_equal(a: u16, b: u16, x: u16, y: u16) -> bool
@@ -57,25 +57,6 @@ pub fn tie_known(ties: &[u16], count: u16, one: u8, two: u8, name: u16) -> bool
         i += 1;
     }
     false
-}
-
-// Adds a tie behind the first rows, unless its loaders are one, its name is int or it is there. Answers the new count.
-pub fn add_tie(ties: &mut [u16], count: u16, one: u8, two: u8, name: u16) -> u32
-    ensures { λ r. ⌜ r ≡ count + length (newTieIn (now (ties .entry)) count one two name) ⌝ }
-    ensures { λ _. ⌜ now (ties .exit) ≡ tiesAfter (now (ties .entry)) count (newTieIn (now (ties .entry)) count one two name) ⌝ }
-{
-    let rows = from16(count);
-    if one == two {
-        return rows;
-    }
-    if name == 1 {
-        return rows;
-    }
-    if tie_known(ties, count, one, two, name) {
-        return rows;
-    }
-    put_three(ties, rows, from8(one), from8(two), name);
-    rows + 1
 }
 
 // Row i is a loader's subtype constraint on two names.

@@ -12,9 +12,10 @@ use Rattle.definition.specs.Lists.{every, all, isSome, rows, stack}
 use Rattle.definition.specs.Classes.{Base, superOf}
 use Rattle.definition.specs.Machine.{Value, emptyValue, intValue, nullValue, objectValue, unlistedValue, Object, ObjectRow, free, owned, Frame}
 use Rattle.definition.specs.File.{readFile}
-use Rattle.definition.specs.Tables.{Tables, shaped, ClassRow, classRowAt, entryAt, tieAt, subtypeAt, fieldAt, ownedBy, ownerAt, objectRowAt, frameIn, sizeOf, viewBase}
-use Rattle.definition.specs.Broken.{within, isObject, entryFits, tieFits, subtypeFits, broken}
+use Rattle.definition.specs.Tables.{Tables, shaped, ClassRow, classRowAt, entryAt, subtypeAt, fieldAt, ownedBy, ownerAt, objectRowAt, frameIn, sizeOf, viewBase}
+use Rattle.definition.specs.Broken.{within, isObject, entryFits, subtypeFits, broken}
 use Rattle.rows.specs.Numbers.{numbersFit}
+use Rattle.groups.specs.Numbered.{groupsFit}
 use Rattle.frames.specs.Made.{madeIn}
 use Rattle.classfile.specs.Reading.{partOf}
 use Rattle.resolution.specs.Quick.{quickOf}
@@ -99,7 +100,7 @@ frameFit n X f = every (ltb (f .class) n ∷ leb (length (f .operands)) 16 ∷ a
 unfoldable pub rowsFit : List ℕ → List ℕ → List ℕ → List ℕ → Bool
 rowsFit counts cache ties subtypes = every
     (all (entryFits (getD counts 0 0)) (rows (entryAt cache) (getD counts 2 0) 0)
-    ∷ all tieFits (rows (tieAt ties) (getD counts 3 0) 0)
+    ∷ groupsFit counts ties (getD counts 3 0)
     ∷ all subtypeFits (rows (subtypeAt subtypes) (getD counts 4 0) 0)
     ∷ [])
 

@@ -1,7 +1,7 @@
 -- The tests of Checks say the same as word 1. Once every class's file reads, what is read at once is what the definition reads, so the tests after it
 -- may go by it.
 use mathlib.Core.Path.{_≡_, refl, sym, ap, _∙_}
-use mathlib.Core.Bool.{Bool, true, not}
+use mathlib.Core.Bool.{Bool, true, false, not, _&&_, false≢true}
 use mathlib.Core.List.{List}
 use Prim.Native.Nat.{ℕ, zero, suc, _+_, _-_, _<_, _≤_}
 use native.Mathlib.Omega.{arith}
@@ -13,15 +13,19 @@ use Rattle.definition.specs.Lists.{all, isSome, rows}
 use Rattle.definition.specs.Classes.{Base, superOf}
 use Rattle.definition.specs.Machine.{Value, emptyValue, intValue, nullValue, objectValue, unlistedValue, ObjectRow, free, owned, Objects, Frame, existing, madeBy}
 use Rattle.definition.specs.File.{readFile}
-use Rattle.definition.specs.Tables.{Tables, shaped, ClassRow, sizeOf, classRowAt, ownerAt, classRowsOf, keptOf, cacheOf, viewBase, objectsOf, framesOf, viewOver, view}
-use Rattle.definition.specs.Broken.{within, isObject, entryFits, valueFits, localFits, objectFits, frameFits, sound, whole, broken}
+use Rattle.definition.specs.Tables.{Tables, shaped, ClassRow, sizeOf, classRowAt, ownerAt, classRowsOf, keptOf, cacheOf, tiesOf, numbersOf, viewBase, objectsOf, framesOf, viewOver, view}
+use Rattle.definition.specs.Broken.{within, isObject, entryFits, tieFits, valueFits, localFits, objectFits, frameFits, sound, grouped, whole, broken}
 use Rattle.layout.specs.Tests.{From, every-true, true-every, all-all, all-test, is-some, some-is, same-test}
 use Rattle.layout.specs.Places.{rows-length, all-rows, rows-all}
 use Rattle.layout.specs.Whole.{First, ClassSound, Classes, fits-classes, classes-fit, sound-true}
 use Rattle.layout.specs.View.{object-there, object-past, object-free}
 use Rattle.layout.specs.Unbroken.{within-true, view-whole}
 use Rattle.layout.specs.ReadBack.{shaped-true}
+use Rattle.layout.specs.InTurn.{RisesFrom, in-turn-words}
 use Rattle.rows.specs.Numbers.{numbersFit}
+use Rattle.groups.specs.Laws.{numbersIn}
+use Rattle.groups.specs.Numbered.{groupsFit}
+use Rattle.groups.specs.Grouped.{fit-grouped}
 use Rattle.frames.specs.Made.{made-by-is}
 use Rattle.classfile.specs.Reading.{quickFile, partOf}
 use Rattle.classfile.specs.Laws.{reads-some}
@@ -206,6 +210,21 @@ module _ (t : Tables) (bytes : getD (t .counts) 1 0 ≤ length (t .kept)) where
     reads = some-is _ _ (part-reads (t .kept) (getD (t .counts) 1 0) bytes (rowOf c) (k .file) (k .reads));
   }
 
+-- the test of ties and their groups, in two
+fit-splits : (t : Tables) → RisesFrom 0 (numbersIn (t .counts) (getD (t .counts) 3 0)) → groupsFit (t .counts) (t .ties) (getD (t .counts) 3 0) ≡ true
+    → (all tieFits (tiesOf t) ≡ true) × (grouped t ≡ true)
+fit-splits t r h = go (leb (getD (t .counts) 3 0) 256) (all tieFits (tiesOf t)) (grouped t) (sym (fit-grouped t r) ∙ h)
+  where
+    go : (a b c : Bool) → ((a && b) && c) ≡ true → (b ≡ true) × (c ≡ true)
+    go true true true e = (refl, refl)
+    go true true false e = absurd (false≢true e)
+    go true false c e = absurd (false≢true e)
+    go false b c e = absurd (false≢true e)
+
+splits-fit : (t : Tables) → RisesFrom 0 (numbersIn (t .counts) (getD (t .counts) 3 0)) → getD (t .counts) 3 0 ≤ 256 → all tieFits (tiesOf t) ≡ true → grouped t ≡ true
+    → groupsFit (t .counts) (t .ties) (getD (t .counts) 3 0) ≡ true
+splits-fit t r l e g = fit-grouped t r ∙ rw (le-leb (getD (t .counts) 3 0) 256 l, e, g) refl
+
 enough : (t : Tables) → shaped t ≡ true → within (t .counts) ≡ true → getD (t .counts) 1 0 ≤ length (t .kept)
 enough t s w = omega (arith, shaped-true t s .kept, within-true (t .counts) w .kept)
 
@@ -218,6 +237,7 @@ checks-sound t h =
     let s = fit-sources t bytes (p .1 .1 .1 .1 .0) in
     let e = quick-view t s in
     let r = every-true _ (p .1 .1 .1 .1 .1 .0) in
+    let ties = fit-splits t (in-turn-words (numbersOf t) (p .1 .1 .1 .0) .ties) (r .1 .0) in
     let v = every-true _ (k .1 .0) in
     let n = getD (t .counts) 0 0 in
     let b = viewBase t in
@@ -233,7 +253,7 @@ checks-sound t h =
       (
         ap (λ (m : ℕ). all (entryFits m) (cacheOf t)) (classes-number t) ∙ r .0,
         (
-          r .1 .0,
+          ties .0,
           (
             r .1 .1 .0,
             (
@@ -246,7 +266,7 @@ checks-sound t h =
     ) in
     let w = view-whole t (within-true (t .counts) (p .1 .0)) (sound-true (view t) sounds) in
     let trace : Base → Bool = λ d. traceQuick (superEnd d) (t .counts) (t .classes) (t .cache) (t .objects) (t .frames) in
-    true-every _ (p .0, (p .1 .0, (sounds, (same-trace t w ∙ (ap trace (sym e) ∙ v .1 .1 .1 .1 .0), tt))))
+    true-every _ (p .0, (p .1 .0, (sounds, (same-trace t w ∙ (ap trace (sym e) ∙ v .1 .1 .1 .1 .0), (ties .1, tt)))))
 
 sound-checks : (t : Tables) → whole t ≡ true → checks t ≡ true
 unfolding checks readable whole sound view viewOver rowsFit valuesFit numbersFit
@@ -258,6 +278,7 @@ sound-checks t h =
     let g = classRowAt (t .classes) in
     let b = viewBase t in
     let k : Classes b (keptOf t) (classRowsOf t) = fits-classes _ _ _ (q .0) in
+    let ties = splits-fit t (in-turn-words (numbersOf t) (q .1 .1 .1 .1 .1 .1 .1 .0) .ties) (within-true (t .counts) (p .1 .0) .ties) (q .1 .1 .0) (p .1 .1 .1 .1 .0) in
     let files = said-sources (getD (t .counts) 1 0) (t .kept) g n (row-first b (keptOf t) g n k) (λ c i j. sources-fit t bytes c b (row-other b (keptOf t) g n k c i j)) in
     let e = quick-view t (fit-sources t bytes files) in
     let links = said-links b n (λ c i j. let s = row-other b (keptOf t) g n k c i j in (some-is _ _ (s .isSuper), s .size)) in
@@ -274,7 +295,7 @@ sound-checks t h =
               q .1 .1 .1 .1 .1 .1 .1 .0,
               (
                 files,
-                (true-every _ (ap (λ (m : ℕ). all (entryFits m) (cacheOf t)) (sym (classes-number t)) ∙ q .1 .0, (q .1 .1 .0, (q .1 .1 .1 .0, tt))), tt),
+                (true-every _ (ap (λ (m : ℕ). all (entryFits m) (cacheOf t)) (sym (classes-number t)) ∙ q .1 .0, (ties, (q .1 .1 .1 .0, tt))), tt),
               ),
             ),
           ),

@@ -4,7 +4,7 @@
 use mathlib.Core.Path.{_≡_, refl, sym, ap, _∙_, subst}
 use mathlib.Core.Bool.{Bool, true, false}
 use mathlib.Core.Option.{some, Option·some-injective}
-use mathlib.Core.List.{List, [], _∷_, map}
+use mathlib.Core.List.{List, [], _∷_}
 use Prim.Native.Nat.{ℕ, zero, suc, _+_, _-_, _*_, _≤_, _<_}
 use native.Mathlib.Omega.{arith}
 use lib.ListN.{length, getElem?, getD, take, length-map}
@@ -15,10 +15,10 @@ use Rattle.definition.specs.Numbers.{countClasses, countCache, countObjects, co
 use Rattle.definition.specs.Lists.{every, all, rows, stack}
 use Rattle.definition.specs.Requests.{at}
 use Rattle.definition.specs.Instructions.{pick}
-use Rattle.definition.specs.Classes.{Base, Class, Entry, find, superOf}
-use Rattle.definition.specs.Machine.{ObjectRow, free, owned, Frame}
+use Rattle.definition.specs.Classes.{Base, Class, Entry, find}
+use Rattle.definition.specs.Machine.{Frame}
 use Rattle.definition.specs.Broken.{numbered, traceFits}
-use Rattle.definition.specs.Tables.{Tables, ClassRow, RowNumbers, rowNumbers, Level, level, Rows, levelOf, tieAt, subtypeAt, classAt, classRowAt, entryAt, ownedBy, ownerAt, objectAt, objectRowAt, numberAt, levelAt, frameOf, frameAt, frameIn, keptOf, classRowsOf, cacheOf, objectsOf, framesOf, viewBase, viewOver, view}
+use Rattle.definition.specs.Tables.{Tables, ClassRow, RowNumbers, rowNumbers, Level, level, Rows, levelOf, tieAt, subtypeAt, classAt, classRowAt, entryAt, ownedBy, ownerAt, objectAt, objectRowAt, numberAt, levelAt, frameIn, keptOf, classRowsOf, cacheOf, objectsOf, framesOf, viewBase, viewOver, view}
 use Rattle.laws.specs.Agreement.{super-is}
 use Rattle.layout.specs.InTurn.{RisesFrom, in-turn-words, numbers-below, first-turn}
 use Rattle.layout.specs.Places.{rows-length, rows-there, rows-part, all-rows, rows-all, all-stack, stack-all}
@@ -27,7 +27,6 @@ use Rattle.classfile.specs.Lists.{every-first, every-fails, every-last}
 use Rattle.layout.specs.Traced.{Under, fits-trace, trace-fits}
 use Rattle.layout.specs.Whole.{First, ClassSound, Whole}
 use Rattle.unbroken.specs.CutFits.{RowBelow, CutFits, Lower, Falls, falls-traced, traced-falls}
-use Rattle.unbroken.specs.WholeRows.{nth-map}
 use Rattle.resolution.specs.Cached.{rowOf, superRow, taken-row, row-taken}
 use Rattle.resolution.specs.Unbroken.{row-first, row-other}
 

@@ -3,15 +3,14 @@ use definition::numbers::COUNT_CACHE;
 use definition::numbers::COUNT_CLASSES;
 use definition::numbers::COUNT_KEPT;
 use definition::numbers::COUNT_SUBTYPES;
-use definition::numbers::COUNT_TIES;
 use definition::numbers::LOADER_LIMIT;
 use definition::numbers::ROW_CELLS;
 ghost use mathlib.Core.Path.{_≡_};
 ghost use lib.ListN.{getD};
-ghost use Rattle.definition.specs.Numbers.{countClasses, countKept, countCache, countTies, countSubtypes};
+ghost use Rattle.definition.specs.Numbers.{countClasses, countKept, countCache, countSubtypes};
 ghost use Rattle.definition.specs.Lists.{all, rows};
-ghost use Rattle.definition.specs.Tables.{classRowAt, entryAt, tieAt, subtypeAt};
-ghost use Rattle.definition.specs.Broken.{isObject, entryFits, tieFits, subtypeFits};
+ghost use Rattle.definition.specs.Tables.{classRowAt, entryAt, subtypeAt};
+ghost use Rattle.definition.specs.Broken.{isObject, entryFits, subtypeFits};
 ghost use Rattle.store.specs.Checks.{fileFits, sourcesFit, rowsFit};
 
 // Loaders are numbers below this, in cells of 16 bits.
@@ -90,30 +89,6 @@ fn entries_fit(counts: &[u16], cache: &[u16]) -> bool
     true
 }
 
-fn tie_fits(ties: &[u16], i: u16) -> bool
-    ensures { λ r. ⌜ r ≡ tieFits (tieAt (now (ties .entry)) i) ⌝ }
-{
-    let place = cells::wide16(i) * ROW_CELLS;
-    if LOADERS <= cells::at16(ties, place) {
-        return false;
-    }
-    cells::at16(ties, place + 1) < LOADERS
-}
-
-fn ties_fit(counts: &[u16], ties: &[u16]) -> bool
-    ensures { λ r. ⌜ r ≡ all tieFits (rows (tieAt (now (ties .entry))) (getD (now (counts .entry)) countTies 0) 0) ⌝ }
-{
-    let n = cells::at16(counts, COUNT_TIES);
-    let mut i: u16 = 0;
-    while i < n {
-        if !tie_fits(ties, i) {
-            return false;
-        }
-        i += 1;
-    }
-    true
-}
-
 fn subtype_fits(subtypes: &[u16], i: u16) -> bool
     ensures { λ r. ⌜ r ≡ subtypeFits (subtypeAt (now (subtypes .entry)) i) ⌝ }
 {
@@ -140,7 +115,7 @@ pub(crate) fn rows_fit(counts: &[u16], cache: &[u16], ties: &[u16], subtypes: &[
     if !entries_fit(counts, cache) {
         return false;
     }
-    if !ties_fit(counts, ties) {
+    if !groups::groups_fit(counts, ties) {
         return false;
     }
     subtypes_fit(counts, subtypes)

@@ -1,9 +1,9 @@
 -- What taking back writes of the counts: the level's five, and how many loads are left. It is the call's answer on a store that has a load to take back; on one that has
 -- none it is late.
-use mathlib.Core.Path.{_≡_, refl, sym, ap, _∙_}
+use mathlib.Core.Path.{_≡_, sym, ap}
 use mathlib.Core.Bool.{true, false}
 use mathlib.Core.List.{List}
-use Prim.Native.Nat.{ℕ, zero, suc, _-_}
+use Prim.Native.Nat.{ℕ, _-_}
 use native.Mathlib.Omega.{arith}
 use lib.ListN.{getD, set}
 use Rattle.definition.specs.declared.Refusal.the-variants.{Word}

@@ -111,7 +111,7 @@ pub fn inline_length(code: &[u8], i: usize, o: Opcode) -> usize
 }
 
 // Signed 16 bits as 32.
-fn extended(n: u16) -> u32
+pub fn extended(n: u16) -> u32
     ensures { λ r. ⌜ r ≡ extend n ⌝ }
 {
     let wide = cells::from16(n);

@@ -14,6 +14,7 @@ mod classes; // classes.rt: all methods of a class file
 pub use classes::verify_class;
 pub use decoding::Reading;
 pub use decoding::decode;
+pub use decoding::extended;
 pub use decoding::inline_length;
 pub use decoding::opcode_of;
 pub use methods::verify_method;

@@ -1,5 +1,6 @@
 //! Wrong machines, which the comparison must tell from the right one. MIRROR_FAULT names the one to be; without it the mirror is right.
 
+use std::cell::Cell;
 use std::sync::OnceLock;
 
 use reference::answer::{denied, word};
@@ -233,9 +234,28 @@ fn classes_under(store: &Store, loader: u16) -> Option<Classes> {
     Some(classes)
 }
 
+thread_local! {
+    /// The fault that `being` asks for.
+    static BEING: Cell<Option<&'static str>> = const { Cell::new(None) };
+}
+
 fn chosen() -> Option<&'static str> {
     static CHOSEN: OnceLock<Option<String>> = OnceLock::new();
-    CHOSEN.get_or_init(|| std::env::var("MIRROR_FAULT").ok()).as_deref()
+    BEING.get().or_else(|| CHOSEN.get_or_init(|| std::env::var("MIRROR_FAULT").ok()).as_deref())
+}
+
+/// The names of all faults that a call other than a try may have.
+pub fn names() -> impl Iterator<Item = &'static str> {
+    let all = FAULTS.iter().chain(&mapped::FAULTS).chain(&rates::FAULTS).chain(&hidden::FAULTS).chain(&listed::FAULTS).chain(&shared::FAULTS);
+    all.map(|fault| fault.0).chain(SLIPS.iter().map(|slip| slip.0))
+}
+
+/// Makes the call as the machine with this fault does.
+pub fn being(fault: &'static str, call: &Call, store: &mut Store) -> Reply {
+    let before = BEING.replace(Some(fault));
+    let reply = make(call, store, &mut []);
+    BEING.set(before);
+    reply
 }
 
 /// The slip of plain.rs that is the fault.

@@ -10,7 +10,7 @@ use reference::{broken, Answer, Refusal, Reply, Store};
 use crate::tried::Listing;
 
 /// What is remembered first, then what a taking back undoes, then what closes and what doesn't, and last which traces are broken.
-pub const FAULTS: [Listing; 43] = [
+pub const FAULTS: [Listing; 45] = [
     ("a-try-is-remembered", |call, store, list| {
         let before = if broken(store) { None } else { Some(store.level()) };
         let reply = call.load().map(|_| call.apply_listing(store, list))?;
@@ -142,8 +142,12 @@ pub const FAULTS: [Listing; 43] = [
         judged(call, store, list, |store| in_turn(store, latest_first(store), &[Wrong::Superclasses]))
     }),
     ("numbers-arent-cut", |call, store, list| judged(call, store, list, |store| in_turn(store, latest_first(store), &[Wrong::Numbers]))),
-    ("objects-and-files-and-entries-arent-tested", |call, store, list| {
-        judged(call, store, list, |store| in_turn(store, latest_first(store), &[Wrong::Objects, Wrong::Files, Wrong::Entries]))
+    ("the-classes-of-objects-arent-tested", |call, store, list| {
+        judged(call, store, list, |store| in_turn(store, latest_first(store), &[Wrong::Objects]))
+    }),
+    ("files-arent-tested", |call, store, list| judged(call, store, list, |store| in_turn(store, latest_first(store), &[Wrong::Files]))),
+    ("the-classes-of-entries-arent-tested", |call, store, list| {
+        judged(call, store, list, |store| in_turn(store, latest_first(store), &[Wrong::Entries]))
     }),
 ];
 

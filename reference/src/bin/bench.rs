@@ -7,12 +7,12 @@
 use std::time::{Duration, Instant};
 
 use reference::gen::large::{
-    chain, chain_clashes, chain_define, chain_record, full, grid, grid_reason, grid_record, long_files, longest_reason, looping, making, objects, posting, tall_tree, tree, tree_of_three, usual,
-    usual_define, usual_record, Held, Repeated, Round,
+    chain, chain_clashes, chain_define, chain_record, empty, full, full_remembering, grid, grid_reason, grid_record, long_files, longest_reason, looping, making, objects, posting, remembering, tall_tree,
+    tree, tree_of_three, usual, usual_define, usual_record, Held, Repeated, Round,
 };
 use reference::gen::{Call, Trial};
 use reference::host::{self, CELLS};
-use reference::store::{LENGTHS, LIMITS, MOST_ROWS};
+use reference::store::{count, LENGTHS, LIMITS, MOST_ROWS};
 use reference::{Answer, Reply, Store};
 
 #[repr(C)]
@@ -158,12 +158,11 @@ fn steps() -> Vec<Case> {
 }
 
 fn loads() -> Vec<Case> {
-    let empty = Trial::ready([1]).store;
     let (clashing, [first, last]) = chain_clashes();
     let (grid_store, grid_define) = grid_reason();
     vec![
         Case::new("record, after boot", Trial::booted().store, Call::Record { loader: 1, name: 2, class: 0 }),
-        Case::new("define, Object alone", empty, Call::Define { loader: 1, file: reference::gen::cases::f().file() }),
+        Case::new("define, Object alone", empty(), Call::Define { loader: 1, file: reference::gen::cases::f().file() }),
         Case::new("record, usual store", usual(), usual_record()),
         Case::new("define, usual store", usual(), usual_define()),
         Case::new("record, longest chain", chain(256, 256), chain_record()),
@@ -177,7 +176,7 @@ fn loads() -> Vec<Case> {
 
 /// Defines of the longest files.
 fn long_defines() -> Vec<Case> {
-    let store = Trial::ready([1]).store;
+    let store = empty();
     long_files().into_iter().map(|(what, file)| Case::new(what, store.clone(), Call::Define { loader: 1, file })).collect()
 }
 
@@ -201,6 +200,24 @@ fn sweeps() -> Vec<Case> {
         [Case::new(format!("sweep, {name}"), store.clone(), Call::Sweep), Case::steps(&format!("step, {name}"), store)]
     };
     stores.into_iter().flat_map(both).collect()
+}
+
+/// A load where none is remembered and where 32 are; taking it back; a step where no load is open and where 32 are, each time anew.
+fn takings() -> Vec<Case> {
+    let mut all = Vec::new();
+    for (loads, store, full) in [("no load", usual(), full(Repeated::NullPop)), ("32 loads", remembering(), full_remembering(Repeated::NullPop))] {
+        for (what, load) in [("record", usual_record()), ("define", usual_define())] {
+            let mut after = store.clone();
+            load.apply(&mut after);
+            all.push(Case::new(format!("{what}, {loads} before it"), store.clone(), load));
+            all.push(Case::new(format!("take back of that {what}"), after, Call::TakeBack));
+        }
+        all.push(Case { times: Some(2_000), ..Case::steps(&format!("idle step, {loads}"), store) });
+        all.push(Case { set_back: vec![count::LOADS], ..Case::steps(&format!("step, full store, {loads}"), full) });
+    }
+    all.push(Case::new("take back, full store, 32 loads", full_remembering(Repeated::NullPop), Call::TakeBack));
+    all.push(Case::new("take back, too late", usual(), Call::TakeBack));
+    all
 }
 
 /// How the cost grows: entries after the call, and ties, with as many subtype constraints.
@@ -236,10 +253,10 @@ fn profile(side: &str, name: &str) {
 }
 
 /// Every table with its cases.
-fn tables() -> [(&'static str, Vec<Case>); 7] {
+fn tables() -> [(&'static str, Vec<Case>); 8] {
     [
         ("run", runs()), ("step", steps()), ("sweep of 256 objects", sweeps()), ("record and define", loads()), ("tries", tries()),
-        ("define of 4,096 bytes", long_defines()), ("record, one chain", growth()),
+        ("loads taken back", takings()), ("define of 4,096 bytes", long_defines()), ("record, one chain", growth()),
     ]
 }
 

@@ -31,7 +31,7 @@ const KINDS: [fn(&mut Rng, &mut Store); 42] = [
 pub type Shape = (&'static str, fn(&Store) -> bool);
 
 /// What damaged stores must have among them.
-pub const SHAPES: [Shape; 26] = [
+pub const SHAPES: [Shape; 27] = [
     ("a class of more than 16 fields", |store| classes(store).iter().any(|&class| field_names(store, class).len() > FIELDS)),
     ("a field's name repeated below", |store| has_repeated_field(store, 2)),
     ("a field's name in three classes", |store| has_repeated_field(store, 3)),
@@ -52,6 +52,7 @@ pub const SHAPES: [Shape; 26] = [
     ("a trace that needs rows alone", |store| is_wrong(store, &[Wrong::Rows])),
     ("a trace that cuts a superclass's entry alone", |store| is_wrong(store, &[Wrong::Superclasses])),
     ("a trace that cuts an entry's class alone", |store| is_wrong(store, &[Wrong::Entries])),
+    ("a trace that cuts an object's class alone", |store| is_wrong(store, &[Wrong::Objects])),
     ("a trace that cuts files alone", |store| is_wrong(store, &[Wrong::Files])),
     ("a trace that cuts numbers alone", |store| is_wrong(store, &[Wrong::Numbers])),
     ("a file of version 2 that define refuses", has_unverified),

@@ -1,4 +1,5 @@
-//! Stores to measure on: call trees, chains of constraints, a usual store, a full one, stores full of objects. None is broken; all agree.
+//! Stores to measure on: call trees, chains of constraints, a usual store, a full one, stores full of objects. None is broken; all agree. No load can be taken
+//! back in them, but for `remembering` and `full_remembering`.
 
 use super::build::{Code, Draft};
 use super::clashes::long_chain;
@@ -7,7 +8,7 @@ use super::loops::repeating;
 use super::rng::Rng;
 use super::{Call, Trial};
 use crate::broken::unbroken;
-use crate::store::{cell, count, frame_base, Store, Value, INT, MOST_OBJECTS, MOST_ROWS, OPERANDS, ROW};
+use crate::store::{cell, count, frame_base, Level, Store, Value, INT, MOST_LOADS, MOST_OBJECTS, MOST_ROWS, OPERANDS, ROW};
 use crate::task::make_object;
 
 /// The class of the trees, and of the upper half of the tall one.
@@ -92,6 +93,7 @@ pub fn chain(entries: usize, links: usize) -> Store {
     trial.define(5, &Draft::new(CHAIN));
     let mut store = trial.store;
     add_chain(&mut store, entries - 1, links);
+    store.close();
     store
 }
 
@@ -159,6 +161,7 @@ pub fn grid() -> Store {
         let loaded = (0..16).filter(|&k| (loader, k) != (7, 7) && (loader, k) != (15, 15));
         loaded.for_each(|k| store.add_cached([loader, GRID + k, k + 1]));
     }
+    store.close();
     store
 }
 
@@ -168,7 +171,9 @@ pub fn grid_record() -> Call {
 
 /// A chain of 512 rows through requests that aren't loaded, and the define that clashes by all of them.
 pub fn longest_reason() -> (Store, Call) {
-    long_chain(&mut Rng::new(512), MOST_ROWS)
+    let (mut store, load) = long_chain(&mut Rng::new(512), MOST_ROWS);
+    store.close();
+    (store, load)
 }
 
 /// The grid, and a define that loads its last request but one by a class of its own: it is below all that the higher names mean. The ties of its
@@ -180,6 +185,21 @@ pub fn grid_reason() -> (Store, Call) {
 
 /// 30 entries, 12 ties and 8 subtype constraints: loader 1's six classes, each below the one before, delegated to by 2, 3 and 4.
 pub fn usual() -> Store {
+    let mut store = usual_loaded();
+    store.close();
+    store
+}
+
+/// The usual store with its loads, which are 29: they can be taken back, and the oldest is remembered three times more, which makes 32.
+pub fn remembering() -> Store {
+    let mut store = usual_loaded();
+    let levels = store.levels();
+    let oldest = vec![levels[0]; MOST_LOADS - levels.len()];
+    store.set_levels(&[oldest, levels].concat());
+    store
+}
+
+fn usual_loaded() -> Store {
     let mut trial = Trial::ready(1..6);
     for k in 0..6 {
         trial.define(1, &Draft::new(10 + k).under(if k == 0 { 2 } else { 9 + k }).field(30 + k, INT));
@@ -209,6 +229,13 @@ pub fn usual_record() -> Call {
 /// Loader 5 defines a class below Object.
 pub fn usual_define() -> Call {
     Call::Define { loader: 5, file: Draft::new(40).field(30, INT).main(ROOT, &Code::new().iload(1).ireturn()).file() }
+}
+
+/// The store with Object alone, known to loader 1.
+pub fn empty() -> Store {
+    let mut store = Trial::ready([1]).store;
+    store.close();
+    store
 }
 
 /// What the quote of the full store repeats: two instructions that change only their frame, or three with a getfield.
@@ -255,6 +282,16 @@ pub fn full(repeated: Repeated) -> Store {
         (0..32).for_each(|depth| fill_frame(&mut store, task, depth));
     }
     store.close();
+    store
+}
+
+/// The full store with 32 loads that can be taken back, each with an entry, a tie and a subtype constraint.
+pub fn full_remembering(repeated: Repeated) -> Store {
+    let mut store = full(repeated);
+    let [classes, kept, entries, ties, subtypes] = store.level();
+    let level = |back: u16| [classes, kept, entries - back, ties - back, subtypes - back];
+    let levels: Vec<Level> = (1..=MOST_LOADS as u16).rev().map(level).collect();
+    store.set_levels(&levels);
     store
 }
 
@@ -453,6 +490,30 @@ mod tests {
             assert_eq!(store.counts[..count::OWNERS], crate::store::LIMITS);
             assert_eq!(store.unused_object(), None);
             assert_eq!(crate::run(&mut store, 100), Reply::RanFor(100, Answer::Ran(0)));
+        }
+    }
+
+    #[test]
+    fn loads_are_remembered_and_taken_back() {
+        let full = full_remembering(Repeated::NullPop);
+        assert_eq!(crate::run(&mut full.clone(), 100), Reply::RanFor(100, Answer::Ran(0)));
+        for (store, what) in [(remembering(), "usual"), (full, "full")] {
+            sound(&store, what);
+            let mut going = store.clone();
+            for level in store.levels().into_iter().rev() {
+                assert_eq!(crate::take_back(&mut going), Reply::Accepted, "{what}");
+                assert_eq!(going.level(), level, "{what}");
+            }
+            assert_eq!(crate::take_back(&mut going), denied(word::TOO_LATE), "{what}");
+        }
+        for load in [usual_record(), usual_define()] {
+            let mut store = remembering();
+            load.apply(&mut store);
+            assert_eq!(store.count(count::LOADS), MOST_LOADS);
+            assert_ne!(store.levels()[0], store.levels()[3], "the oldest was pushed out");
+        }
+        for store in [empty(), usual(), grid(), chain(256, 256), longest_reason().0, posting(), tree()] {
+            assert_eq!(store.count(count::LOADS), 0);
         }
     }
 

@@ -183,8 +183,8 @@ fn spoil(rng: &mut Rng, store: &mut Store) {
     let levels = store.count(count::LOADS);
     let at = count::LEVELS + 5 * rng.below(levels);
     let superclass = some_superclass_row(rng, store, store.counts[at]);
-    let cell = &mut store.counts[at + rng.weighted(&[3, 2, 3, 2, 2])];
-    match rng.below(19) {
+    let cell = &mut store.counts[at + rng.weighted(&[3, 4, 3, 2, 2])];
+    match rng.below(21) {
         0..=3 => *cell = cell.saturating_sub(1),
         4..=6 => *cell = cell.saturating_add(1),
         7 => *cell = rng.pick(&[0, 1, 255, 256, u16::MAX]),
@@ -195,11 +195,22 @@ fn spoil(rng: &mut Rng, store: &mut Store) {
             let (which, rows) = rng.pick(&[(count::TIES, store.counts[count::TIES]), (count::SUBTYPES, store.counts[count::SUBTYPES])]);
             store.counts[at + which] = rng.within(0, rows.into()) as u16;
         }
+        18 | 19 => used_class(store),
         _ => {
             let other = count::LEVELS + 5 * rng.below(levels);
             (0..5).for_each(|cell| store.counts.swap(at + cell, other + cell));
         }
     }
+}
+
+/// The oldest level takes a class that an object or a frame has, with its entries.
+fn used_class(store: &mut Store) {
+    let classes = least_classes(store).saturating_sub(1);
+    let entries = most_entries(store, classes);
+    let [n, _, e, ..] = &mut store.counts[count::LEVELS..][..5] else {
+        return;
+    };
+    (*n, *e) = ((*n).min(classes), (*e).min(entries));
 }
 
 /// The cache row of the superclass of some class below this one.

@@ -29,6 +29,7 @@ impl Library {
             both.declare(word, *number).map_err(|taken| match taken {
                 Taken::Name(there) => format!("{word} is {there} here and {number} there"),
                 Taken::Number(there) => format!("{number} is {there} here and {word} there"),
+                Taken::Word => format!("{word} is an insurer here"),
             })?;
         }
         Ok(Library { beside: beside.clone(), ..Library::of(names) })

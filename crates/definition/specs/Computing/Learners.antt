@@ -1,10 +1,11 @@
 -- What learners do instead, and what the definitions do: each mistake would change one of these answers.
 use mathlib.Core.Path.{_≡_, refl}
+use mathlib.Core.Bool.{false}
 use mathlib.Core.List.{List, [], _∷_, _++_, map}
 use Prim.Native.Nat.{ℕ}
 use lib.ListN.{replicate, set}
 use Rattle.definition.specs.Numbers.{countsLength, countTies}
-use Rattle.definition.specs.Lists.{every, all, any, doubled, indexOf, isNone, toList, sameList, filled, rows, writeRows, writeStack}
+use Rattle.definition.specs.Lists.{every, all, any, doubled, indexOf, isNone, toList, sameList, filled, rows, writeRows, writeStack, allFrom}
 use Rattle.definition.specs.Chains.{has, fires, rest, grow, reachFrom, reach, leads}
 use Rattle.definition.specs.Requests.{sameRequest}
 use Rattle.definition.specs.Superclasses.{seek, nearest, below}
@@ -16,16 +17,18 @@ use Rattle.definition.specs.Verifier.{typeOfName, meetClass, meetInt, me
 use Rattle.definition.specs.Machine.{objectHeld, existing, unused, made, rewritten, changed, roomless, shareUsed, madeBy, initialValue, newObject, pop!, popAll!, int!, reference!, ofKind!, kind!, kinds!, compute, jumps, room!, object!, now, under!, give, execute, step}
 use Rattle.definition.specs.Loading.{subtypeIs, newSubtypes, overrideTie, overrideTies, define, recorded, started}
 use Rattle.definition.specs.Groups.{numbersOfTies, lesser, lowest, groupOf, cellOf, groupsOf}
-use Rattle.definition.specs.Tables.{fileAt, classAt, tables, tie, withTies, withNumbers, noRows, numberAt, putNumber, putNumbers, putTrace, putGroups, countsOf, put}
+use Rattle.definition.specs.Tables.{fileAt, classAt, tables, tie, withTies, withNumbers, noRows, numberAt, putNumber, putNumbers, putTrace, putGroups, countsOf, put, cutTo}
 use Rattle.definition.specs.Broken.{groupsIn}
-use Rattle.definition.specs.Calls.{defineRows, entryTrace, recordRows, startRows, dropRows, answerOf, stepTask, stepOn, stepRows, carried}
+use Rattle.definition.specs.Calls.{defineRows, entryTrace, recordRows, startRows, dropRows, answerOf, stepTask, stepOn, stepRows, carried, sweepRows, takenBack}
+use Rattle.definition.specs.Sweeping.{roots, linksFrom, reached, sweptFrom, freedFrom}
 use Rattle.definition.specs.Answers.{refused, number, numberOfStep, numberOf, _>>=_, need, take?}
 use Rattle.definition.specs.Computing.OnRows.{settle, onRows, runRows, performRows, performAllRows}
 use Rattle.definition.specs.Computing.Samples.{two, method, ints, fielded, into, from, fileOf, plain, fileF, taker, coded, lifts, pushes, ready, tied12, tied123}
 use Rattle.definition.specs.Maybe as Maybe
 use Rattle.definition.specs.Answers.{Refusal, Finished, Accepted, Defined, RanFor, Denied}
-use Rattle.definition.specs.Tables.{Tables, rowNumbers}
-use Rattle.definition.specs.Calls.{bootRows, numberedOn, Call, callDefine, callRecord, callStart, callRun}
+use Rattle.definition.specs.Tables.{Tables, rowNumbers, level}
+use Rattle.definition.specs.Broken.{isObject, classesFit, entryFits, inTurn, numbered, sound, levelFits, traceFits}
+use Rattle.definition.specs.Calls.{bootRows, numberedOn, Call, callDefine, callRecord, callStart, callRun, callSweep, callTakeBack}
 
 -- the numbers of the answers to the calls, from a boot
 unfoldable numbers : List Call → List ℕ
@@ -92,3 +95,18 @@ fields : performAllRows (hiding ++ callStart 0 1 42 20 7 ∷ callRun 12 ∷ []) 
     ≡ Accepted ∷ Accepted ∷ Accepted ∷ Defined 1 ∷ Defined 2 ∷ Defined 3 ∷ Accepted ∷ RanFor 11 (Finished 0 5) ∷ []
 unfolding fielded into from ints hiding every all any doubled indexOf isNone toList sameList filled sameRequest has fires rest grow reachFrom reach leads seek nearest below find lower superOf loaderOf ownSlots slotsIn slots slotIs hasField sameSignature alike methodsOf hasMethod selected tieEdges subtypeEdges edges pairAgrees rowAgrees agreesOver agrees tieIs newTie newTies signatureTies agreesAfter post byte short name count fieldsIn oneIn argumentsIn signatureIn namesIn mapIn mapsFrom mapsIn methodsIn ends sameField sameMethod readFile pick opcodeOf inlineLength shortAt extend instructionOf sizedAs decode typeOfName meetClass meetInt meets meetKind pop popAll isNamed effect returns returnKind target goesOn mapAt localType meetLocal meetAll meetMap flowInto flowToTarget startAt after turn mapsPast verify typesAt unmappedFrom unmapped notesOf existing objectHeld made rewritten changed unused roomless shareUsed madeBy initialValue newObject pop! popAll! int! reference! kind! kinds! room! object! now under! give execute step subtypeIs newSubtypes overrideTie overrideTies define recorded started fileAt classAt defineRows entryTrace recordRows startRows dropRows answerOf stepTask stepOn stepRows number numberOfStep numberOf _>>=_ need take? settle onRows runRows performRows performAllRows two method fileOf plain fileF taker coded lifts pushes ready tied12 tied123 Maybe._>>=_ Maybe.need notesOfMethod ofKind! compute jumps
 fields = refl
+
+-- A load taken back takes the numbers of its constraints with it
+taken-numbers : performAllRows (ready ++ callDefine 1 (returning 40 2) ∷ callRecord 2 40 1 ∷ callDefine 2 (fileOf 41 40 1 (method 30 12 13 (0x19 ∷ 1 ∷ 0xB0 ∷ []))) ∷ callTakeBack ∷ []) bootRows .rows .numbers ≡ rowNumbers [] []
+unfolding rows takenBack cutTo numberedOn returning every all any doubled indexOf isNone toList sameList filled sameRequest has fires rest grow reachFrom reach leads seek nearest below find lower superOf loaderOf ownSlots slotsIn slots slotIs hasField sameSignature alike methodsOf hasMethod selected tieEdges subtypeEdges edges pairAgrees rowAgrees agreesOver agrees tieIs newTie newTies signatureTies agreesAfter post byte short name count fieldsIn oneIn argumentsIn signatureIn namesIn mapIn mapsFrom mapsIn methodsIn ends sameField sameMethod readFile pick opcodeOf inlineLength shortAt extend instructionOf sizedAs decode typeOfName meetClass meetInt meets meetKind pop popAll isNamed effect returns returnKind target goesOn mapAt localType meetLocal meetAll meetMap flowInto flowToTarget startAt after turn mapsPast verify typesAt unmappedFrom unmapped notesOf existing unused roomless shareUsed madeBy initialValue newObject pop! popAll! int! reference! kind! kinds! room! object! now under! give execute step subtypeIs newSubtypes overrideTie overrideTies define recorded started fileAt classAt defineRows entryTrace recordRows startRows dropRows answerOf stepTask stepOn stepRows number numberOfStep numberOf _>>=_ need take? settle onRows runRows performRows performAllRows two method fileOf plain fileF taker coded lifts pushes ready tied12 tied123 Maybe._>>=_ Maybe.need notesOfMethod ofKind! compute jumps
+taken-numbers = refl
+
+-- A sweep that frees nothing closes the loads before it all the same
+swept-late : numbers (callRecord 1 2 0 ∷ callSweep ∷ callTakeBack ∷ []) ≡ 0 ∷ 0 ∷ 19 ∷ []
+unfolding numbers every all any sameRequest has fires rest grow reachFrom reach leads find below tieEdges subtypeEdges edges pairAgrees rowAgrees agreesOver agrees agreesAfter recorded fileAt classAt entryTrace recordRows sweepRows takenBack cutTo linksFrom roots reached sweptFrom freedFrom number numberOf _>>=_ need take? settle onRows performRows performAllRows Maybe._>>=_ Maybe.need readFile byte
+swept-late = refl
+
+-- Loads are taken back in turn: the second finds what the first left, and no class is there
+taken-in-turn : traceFits (level 0 0 0 0 0 ∷ level 1 0 1 0 0 ∷ []) bootRows ≡ false
+unfolding cutTo isObject classesFit entryFits inTurn numbered sound levelFits traceFits every all allFrom madeBy
+taken-in-turn = refl

@@ -1,7 +1,6 @@
 -- What is admitted is offered with the list.
 use mathlib.Core.Path.{refl}
 use denote.Ref.{now}
-use lib.ListN.{length}
 use Rattle.definition.specs.Tables.{tables}
 use Rattle.definition.specs.Calls.{loadDefine}
 use Rattle.loading.specs.Plans.{loadOf, held, Lent}

@@ -1,6 +1,5 @@
 -- What is admitted is offered with the list.
 use denote.Ref.{now}
-use lib.ListN.{length}
 use Rattle.definition.specs.Tables.{tables}
 use Rattle.definition.specs.Calls.{loadRecord}
 use Rattle.loading.specs.Plans.{loadOf, held, Lent}

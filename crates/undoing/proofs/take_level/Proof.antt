@@ -1,5 +1,4 @@
 -- The row's five cells are read, and written as the counts.
-use mathlib.Core.Path.{_≡_, refl, sym, ap, _∙_}
 use borrow.Author.Needs.{needs}
 use Rattle.definition.specs.Tables.{levelAt}
 use Rattle.undoing.specs.Back.{backTo}

@@ -1,5 +1,4 @@
 -- Five cells are read, and written at the row.
-use mathlib.Core.Path.{_≡_, refl, sym, ap, _∙_}
 use native.Mathlib.Omega.{arith}
 use borrow.Author.Needs.{needs}
 use Rattle.definition.specs.Tables.{putLevel}

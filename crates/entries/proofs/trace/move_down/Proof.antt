@@ -1,10 +1,9 @@
 -- Before row k is written, the rows below it have been.
-use mathlib.Core.Path.{_≡_, refl, sym, ap, _∙_}
-use Prim.Native.Nat.{ℕ, _+_, _-_, _<_, _≤_}
+use mathlib.Core.Path.{_≡_, ap, _∙_}
+use Prim.Native.Nat.{_-_, _≤_}
 use native.Mathlib.Omega.{arith}
 use lib.ListN.{length}
 use borrow.Author.Needs.{needs}
-use Rattle.definition.specs.Numbers.{traceCell, levelCells}
 use Rattle.entries.specs.Remembering.{le-same, moved-length, moved-next, moved-none, movedDown}
 use Rattle.entries.proofs.trace.move_down.Statement.{statement}
 use Rattle.entries.proofs.trace.move_down.Tie as tie

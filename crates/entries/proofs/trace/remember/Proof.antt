@@ -1,5 +1,5 @@
 -- Too many loads, fewer than the most, or the most.
-use mathlib.Core.Path.{_≡_, refl, sym, ap, _∙_}
+use mathlib.Core.Path.{sym}
 use borrow.Author.Needs.{needs}
 use Rattle.entries.specs.Remembering.{remembered-few, remembered-full, remembered-many}
 use Rattle.entries.proofs.trace.remember.Statement.{statement}

@@ -1,5 +1,5 @@
 -- The run of steps: the loop has taken k of them, what is left of the run is the whole run, the store is not broken, and what a new
--- object asks for is at hand.
+-- object asks for is at hand. After a step come those that touch their frame alone.
 use Prim.Native.Nat.{_-_, _≤_}
 use mathlib.Core.Path.{_≡_, refl, sym, _∙_}
 use mathlib.Core.Bool.{false}
@@ -8,6 +8,7 @@ use borrow.Author.Needs.{needs}
 use lib.ListN.{length}
 use borrow.Author.Tests.{not-true, not-false}
 use Rattle.execution.specs.Runs.{RoomIn, run-stops, run-on, still-whole, next-room, room-for, room-few, run-ends, run-begins}
+use Rattle.execution.specs.Ahead.{sound, go-on}
 use Rattle.definition.specs.declared.Answer.the-variants.{Idle}
 use Rattle.definition.specs.Broken.{broken}
 use Rattle.definition.specs.Calls.{stepTables, runFrom}
@@ -16,7 +17,7 @@ use Rattle.execution.proofs.runs.steps.Statement.{statement}
 use Rattle.execution.proofs.runs.steps.Tie as tie
 
 abbrev Inv-loop : tie.InvT-loop
-Inv-loop counts₀ classes kept cache ties₀ subtypes objects₀ frames₀ n k₀ last₀ room₀ counts ties objects frames k last room =
+Inv-loop counts₀ classes kept cache ties₀ subtypes objects₀ frames₀ opcodes n k₀ last₀ room₀ counts ties objects frames k last room =
     (k ≤ n)
     × (runFrom stepTables (n - k) k last (tables counts classes kept cache ties subtypes objects frames)
     ≡ runFrom stepTables n 0 Idle (tables counts₀ classes kept cache ties₀ subtypes objects₀ frames₀))
@@ -28,13 +29,13 @@ Inv-loop counts₀ classes kept cache ties₀ subtypes objects₀ frames₀ n k�
     × RoomIn counts (room .free) (room .made)
 
 abbrev μ-loop : tie.MeasureT-loop
-μ-loop counts₀ classes kept cache ties₀ subtypes objects₀ frames₀ n k₀ last₀ room₀ counts ties objects frames k last room = n - k
+μ-loop counts₀ classes kept cache ties₀ subtypes objects₀ frames₀ opcodes n k₀ last₀ room₀ counts ties objects frames k last room = n - k
 
 loop-holds : tie.Need-loop-holds Inv-loop μ-loop
-loop-holds c = (omega arith, run-begins _ _, c .before .before .before .before .before .before .before .before .before .before .pre, refl, refl, refl, refl, c .first-room .ensures)
+loop-holds c = (omega arith, run-begins _ _, c .before .before .before .before .before .before .before .before .before .before .before .pre .0, refl, refl, refl, refl, c .first-room .ensures)
 
 step-unbroken-requires : tie.Need-step-unbroken-requires Inv-loop μ-loop
-step-unbroken-requires c κs = let l = c .before .before .before .before .before .before .before .loop in (l .inv .2, room-for _ _ _ (l .inv .7))
+step-unbroken-requires c κs = (c .before .before .before .before .before .before .before .loop .inv .2, room-for _ _ _ (c .before .before .before .before .before .before .before .loop .inv .7))
 
 same-length : tie.Need-same-length Inv-loop μ-loop
 same-length c = c .before .before .before .before .before .before .before .before .before .before .step-unbroken .kept .0 ∙ c .before .before .before .before .before .before .before .before .before .before .before .before .before .before .before .before .before .before .loop .inv .3
@@ -49,30 +50,28 @@ same-length-4 : tie.Need-same-length-4 Inv-loop μ-loop
 same-length-4 c = c .before .before .before .before .before .before .before .before .before .before .step-unbroken .kept .1 .1 .1 .1 .1 .1 .1 .0 ∙ c .before .before .before .before .before .before .before .before .before .before .before .before .before .before .before .before .before .before .loop .inv .6
 
 returns : tie.Need-returns Inv-loop μ-loop
-returns c =
-    let at10 = c .before .before .before .before .before .before .before .before .before .before in
-    let at17 = at10 .before .before .before .before .before .before .before in
-    let at18 = at17 .before in
-    run-stops _ _ _ _ _ _ (at10 .step-unbroken .ensures) (at17 .loop-test .taken) (sym (c .before .is-ran .ensures) ∙ not-true _ (c .if1 .taken)) ∙ at18 .loop .inv .1
+returns c = run-stops _ _ _ _ _ _ (c .before .before .before .before .before .before .before .before .before .before .step-unbroken .ensures) (c .before .before .before .before .before .before .before .before .before .before .before .before .before .before .before .before .before .loop-test .taken) (sym (c .before .is-ran .ensures) ∙ not-true _ (c .if1 .taken)) ∙ c .before .before .before .before .before .before .before .before .before .before .before .before .before .before .before .before .before .before .loop .inv .1
 
 next-room-requires : tie.Need-next-room-requires Inv-loop μ-loop
-next-room-requires c κs = let l = c .before .before .before .before .before .before .before .before .before .before .before .before .before .before .before .before .before .before .before .loop in room-few _ (l .inv .2) _ _ (l .inv .7)
+next-room-requires c κs = room-few _ (c .before .before .before .before .before .before .before .before .before .before .before .before .before .before .before .before .before .before .before .loop .inv .2) _ _ (c .before .before .before .before .before .before .before .before .before .before .before .before .before .before .before .before .before .before .before .loop .inv .7)
 
 add-k : tie.Need-add-k Inv-loop μ-loop
-add-k c = let at19 = c .before .before .before .before .before .before .before .before .before .before .before .before .before .before .before .before .before .before .before in omega (arith, at19 .loop-test .taken, at19 .before .before .before .before .before .before .before .before .before .before .before .before .fits .n)
+add-k c = omega (arith, c .before .before .before .before .before .before .before .before .before .before .before .before .before .before .before .before .before .before .before .loop-test .taken, c .before .before .before .before .before .before .before .before .before .before .before .before .before .before .before .before .before .before .before .before .before .before .before .before .before .before .before .before .before .before .before .before .fits .n)
+
+sub-go-ahead : tie.Need-sub-go-ahead Inv-loop μ-loop
+sub-go-ahead c = omega (arith, c .before .before .before .before .before .before .before .before .before .before .before .before .before .before .before .before .before .before .before .before .before .loop-test .taken)
+
+go-ahead-requires : tie.Need-go-ahead-requires Inv-loop μ-loop
+go-ahead-requires c κs = (sound _ _ _ _ _ _ _ _ (still-whole (c .before .before .before .before .before .before .before .before .before .before .before .before .before .before .before .before .before .before .before .before .before .before .before .before .before .before .before .before .before .before .before .before .before .before .args .n) (c .before .before .before .before .before .before .before .before .before .before .before .before .before .before .before .before .before .before .before .before .before .before .loop .k) (c .before .before .before .before .before .before .before .before .before .before .before .before .before .before .before .before .before .before .before .before .before .before .loop .last) _ _ _ (c .before .before .before .before .before .before .before .before .before .before .before .before .before .before .step-unbroken .ensures) (c .before .before .before .before .before .before .before .before .before .before .before .before .before .before .before .before .before .before .before .before .before .before .loop .inv .2)), c .before .before .before .before .before .before .before .before .before .before .before .before .before .before .before .before .before .before .before .before .before .before .before .before .before .before .before .before .before .before .before .before .before .before .pre .1)
+
+add-k-2 : tie.Need-add-k-2 Inv-loop μ-loop
+add-k-2 c = omega (arith, c .before .before .before .before .before .before .before .before .before .before .before .before .before .before .before .before .before .before .before .before .before .before .before .before .before .before .loop-test .taken, c .before .before .before .before .go-ahead .ensures .1, c .before .before .before .before .before .before .before .before .before .before .before .before .before .before .before .before .before .before .before .before .before .before .before .before .before .before .before .before .before .before .before .before .before .before .before .before .before .before .before .fits .n)
 
 loop-less : tie.Need-loop-less Inv-loop μ-loop
-loop-less c = omega (arith, c .before .before .before .before .before .before .before .before .before .before .before .before .before .before .before .before .before .before .before .loop-test .taken)
+loop-less c = omega (arith, c .before .before .before .before .before .before .before .before .before .before .before .before .before .before .before .before .before .before .before .before .before .before .before .before .before .before .loop-test .taken, c .before .before .before .before .go-ahead .ensures .1)
 
 loop-again : tie.Need-loop-again Inv-loop μ-loop
-loop-again c =
-    let at12 = c .before .before .before .before .before .before .before .before .before .before .before .before in
-    let at17 = at12 .before .before .before .before .before in
-    let at19 = at17 .before .before in
-    let at20 = at19 .before in
-    let n = at20 .before .before .before .before .before .before .before .before .before .before .before .args .n in
-    let l = at20 .loop in
-    (omega (arith, at19 .loop-test .taken), run-on _ _ _ _ _ _ (at12 .step-unbroken .ensures) (at19 .loop-test .taken) (sym (c .before .before .before .is-ran .ensures) ∙ not-false _ (c .before .before .if1 .left)) ∙ l .inv .1, still-whole n (l .k) (l .last) _ _ _ (at12 .step-unbroken .ensures) (l .inv .2), at12 .step-unbroken .kept .0 ∙ l .inv .3, at12 .step-unbroken .kept .1 .1 .1 .1 .0 ∙ l .inv .4, at12 .step-unbroken .kept .1 .1 .1 .1 .1 .1 .0 ∙ l .inv .5, at12 .step-unbroken .kept .1 .1 .1 .1 .1 .1 .1 .0 ∙ l .inv .6, next-room n (l .k) (l .last) _ _ _ (at12 .step-unbroken .ensures) _ _ _ _ (l .inv .7) (rw (at17 .turn .ensures) at (c .next-room .ensures)))
+loop-again c = (omega (arith, c .before .before .before .before .before .before .before .before .before .before .before .before .before .before .before .before .before .before .before .before .before .before .before .before .before .before .loop-test .taken, c .before .before .before .before .go-ahead .ensures .1), go-on _ _ _ _ _ _ _ (c .last-of .ensures) (c .before .before .before .before .go-ahead .ensures .0 _ _ _ _ (still-whole (c .before .before .before .before .before .before .before .before .before .before .before .before .before .before .before .before .before .before .before .before .before .before .before .before .before .before .before .before .before .before .before .before .before .before .before .before .before .before .before .args .n) (c .before .before .before .before .before .before .before .before .before .before .before .before .before .before .before .before .before .before .before .before .before .before .before .before .before .before .before .loop .k) (c .before .before .before .before .before .before .before .before .before .before .before .before .before .before .before .before .before .before .before .before .before .before .before .before .before .before .before .loop .last) _ _ _ (c .before .before .before .before .before .before .before .before .before .before .before .before .before .before .before .before .before .before .before .step-unbroken .ensures) (c .before .before .before .before .before .before .before .before .before .before .before .before .before .before .before .before .before .before .before .before .before .before .before .before .before .before .before .loop .inv .2))) (omega (arith, c .before .before .before .before .before .before .before .before .before .before .before .before .before .before .before .before .before .before .before .before .before .before .before .before .before .before .loop-test .taken, c .before .before .before .before .go-ahead .ensures .1)) ∙ (run-on _ _ _ _ _ _ (c .before .before .before .before .before .before .before .before .before .before .before .before .before .before .before .before .before .before .before .step-unbroken .ensures) (c .before .before .before .before .before .before .before .before .before .before .before .before .before .before .before .before .before .before .before .before .before .before .before .before .before .before .loop-test .taken) (sym (c .before .before .before .before .before .before .before .before .before .before .is-ran .ensures) ∙ not-false _ (c .before .before .before .before .before .before .before .before .before .if1 .left)) ∙ c .before .before .before .before .before .before .before .before .before .before .before .before .before .before .before .before .before .before .before .before .before .before .before .before .before .before .before .loop .inv .1), c .before .before .before .before .go-ahead .ensures .0 _ _ _ _ (still-whole (c .before .before .before .before .before .before .before .before .before .before .before .before .before .before .before .before .before .before .before .before .before .before .before .before .before .before .before .before .before .before .before .before .before .before .before .before .before .before .before .args .n) (c .before .before .before .before .before .before .before .before .before .before .before .before .before .before .before .before .before .before .before .before .before .before .before .before .before .before .before .loop .k) (c .before .before .before .before .before .before .before .before .before .before .before .before .before .before .before .before .before .before .before .before .before .before .before .before .before .before .before .loop .last) _ _ _ (c .before .before .before .before .before .before .before .before .before .before .before .before .before .before .before .before .before .before .before .step-unbroken .ensures) (c .before .before .before .before .before .before .before .before .before .before .before .before .before .before .before .before .before .before .before .before .before .before .before .before .before .before .before .loop .inv .2)) .whole, c .before .before .before .before .before .before .before .before .before .before .before .before .before .before .before .before .before .before .before .step-unbroken .kept .0 ∙ c .before .before .before .before .before .before .before .before .before .before .before .before .before .before .before .before .before .before .before .before .before .before .before .before .before .before .before .loop .inv .3, c .before .before .before .before .before .before .before .before .before .before .before .before .before .before .before .before .before .before .before .step-unbroken .kept .1 .1 .1 .1 .0 ∙ c .before .before .before .before .before .before .before .before .before .before .before .before .before .before .before .before .before .before .before .before .before .before .before .before .before .before .before .loop .inv .4, c .before .before .before .before .before .before .before .before .before .before .before .before .before .before .before .before .before .before .before .step-unbroken .kept .1 .1 .1 .1 .1 .1 .0 ∙ c .before .before .before .before .before .before .before .before .before .before .before .before .before .before .before .before .before .before .before .before .before .before .before .before .before .before .before .loop .inv .5, c .before .before .before .before .go-ahead .kept .1 .1 .1 .0 ∙ (c .before .before .before .before .before .before .before .before .before .before .before .before .before .before .before .before .before .before .before .step-unbroken .kept .1 .1 .1 .1 .1 .1 .1 .0 ∙ c .before .before .before .before .before .before .before .before .before .before .before .before .before .before .before .before .before .before .before .before .before .before .before .before .before .before .before .loop .inv .6), next-room (c .before .before .before .before .before .before .before .before .before .before .before .before .before .before .before .before .before .before .before .before .before .before .before .before .before .before .before .before .before .before .before .before .before .before .before .before .before .before .before .args .n) (c .before .before .before .before .before .before .before .before .before .before .before .before .before .before .before .before .before .before .before .before .before .before .before .before .before .before .before .loop .k) (c .before .before .before .before .before .before .before .before .before .before .before .before .before .before .before .before .before .before .before .before .before .before .before .before .before .before .before .loop .last) _ _ _ (c .before .before .before .before .before .before .before .before .before .before .before .before .before .before .before .before .before .before .before .step-unbroken .ensures) _ _ _ _ (c .before .before .before .before .before .before .before .before .before .before .before .before .before .before .before .before .before .before .before .before .before .before .before .before .before .before .before .loop .inv .7) (rw (c .before .before .before .before .before .before .before .before .before .before .before .before .before .before .before .before .before .before .before .before .before .before .before .before .turn .ensures) at (c .before .before .before .before .before .before .before .next-room .ensures)))
 
 same-length-5 : tie.Need-same-length-5 Inv-loop μ-loop
 same-length-5 c = c .before .loop .inv .3
@@ -107,6 +106,10 @@ steps-spec =
     returns
     next-room-requires
     add-k
+    sub-go-ahead
+    go-ahead-requires
+    (λ c κs. search needs)
+    add-k-2
     loop-less
     loop-again
     same-length-5

@@ -1,7 +1,6 @@
 -- 0 is no superclass.
 use native.Mathlib.Omega.{arith}
 use Rattle.loading.proofs.Admitted.{reply-entry, reply-class}
-use borrow.Author.Needs.{needs}
 use Rattle.loading.proofs.carrying.reply_of.Statement.{statement}
 use Rattle.loading.proofs.carrying.reply_of.Tie as tie
 

@@ -1,5 +1,5 @@
 -- The class of the row in which the request stands first.
-use mathlib.Core.Path.{_∙_, ap}
+use mathlib.Core.Path.{ap}
 use borrow.Author.Needs.{needs}
 use Rattle.resolution.specs.Cached.{find-by-row}
 use Rattle.resolution.specs.Quick.{found}

@@ -1,5 +1,5 @@
 -- The superclass is found by the row of its entry.
-use mathlib.Core.Path.{_∙_, ap}
+use mathlib.Core.Path.{ap}
 use borrow.Author.Needs.{needs}
 use Rattle.resolution.specs.Cached.{super-by-row}
 use Rattle.resolution.specs.Quick.{found, quickBase}

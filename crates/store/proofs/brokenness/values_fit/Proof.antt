@@ -1,6 +1,5 @@
 -- Superclasses and sizes, objects, the frames of both tasks and the trace are tested one after the other.
-use mathlib.Core.Path.{_≡_, ap, _∙_, sym}
-use Prim.Native.Nat.{ℕ}
+use mathlib.Core.Path.{_∙_, sym}
 use borrow.Author.Needs.{needs}
 use borrow.Author.Tests.{not-false, not-true}
 use Rattle.classfile.specs.Lists.{every-fails, every-first, every-last}

@@ -1,5 +1,4 @@
 -- A cell of the row.
-use mathlib.Core.Path.{_≡_, refl, sym, ap, _∙_}
 use borrow.Author.Needs.{needs}
 use Rattle.definition.specs.Tables.{levelAt}
 use Rattle.store.proofs.trace.entries_left.Statement.{statement}

@@ -1,5 +1,4 @@
 -- Objects, then the frames of both tasks.
-use mathlib.Core.Path.{_≡_, refl, sym, ap, _∙_}
 use borrow.Author.Needs.{needs}
 use Rattle.store.specs.Tracing.{heldEnd}
 use Rattle.store.proofs.trace.held_end.Statement.{statement}

@@ -1,5 +1,5 @@
 -- The five counts are compared, one after the other.
-use mathlib.Core.Path.{_≡_, refl, sym, ap, _∙_}
+use mathlib.Core.Path.{sym, _∙_}
 use native.Mathlib.Omega.{arith}
 use borrow.Author.Needs.{needs}
 use Rattle.classfile.specs.Lists.{every-fails, every-first, every-last}

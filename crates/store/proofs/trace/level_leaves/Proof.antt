@@ -1,6 +1,5 @@
 -- The counts are compared with what is left, one after the other.
-use mathlib.Core.Path.{_≡_, refl, sym, ap, _∙_}
-use native.Mathlib.Omega.{arith}
+use mathlib.Core.Path.{refl, sym, _∙_}
 use borrow.Author.Needs.{needs}
 use borrow.Author.Tests.{not-false, not-true}
 use Rattle.classfile.specs.Lists.{every-fails, every-first, every-last}

@@ -1,10 +1,8 @@
 -- The greatest numbers up to the level before row i are known; before row i is tested, the rows from it on pass exactly if all do.
 use mathlib.Core.Path.{_≡_, refl, sym, ap, _∙_}
-use mathlib.Core.Bool.{true}
-use Prim.Native.Nat.{ℕ, _+_, _-_, _<_, _≤_}
+use Prim.Native.Nat.{_-_, _<_, _≤_}
 use native.Mathlib.Omega.{arith}
 use borrow.Author.Needs.{needs}
-use denote.Ref.{now}
 use borrow.Author.Tests.{not-false, not-true}
 use Rattle.definition.specs.Lists.{all, rows}
 use Rattle.definition.specs.Tables.{levelAt}

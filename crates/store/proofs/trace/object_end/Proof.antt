@@ -1,5 +1,5 @@
 -- A free row has no class.
-use mathlib.Core.Path.{_≡_, refl, sym, ap, _∙_}
+use mathlib.Core.Path.{sym, _∙_}
 use borrow.Author.Needs.{needs}
 use Rattle.definition.specs.Tables.{ownerAt}
 use Rattle.store.specs.Tracing.{end-free, end-owned}

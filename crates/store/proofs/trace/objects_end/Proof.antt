@@ -1,6 +1,6 @@
 -- Before object o is looked at, the greatest of it and those after it is the answer.
-use mathlib.Core.Path.{_≡_, refl, sym, ap, _∙_}
-use Prim.Native.Nat.{ℕ, _+_, _-_, _<_, _≤_}
+use mathlib.Core.Path.{_≡_, sym, _∙_}
+use Prim.Native.Nat.{_-_}
 use borrow.Author.Needs.{needs}
 use lib.ListN.{getD}
 use Rattle.store.specs.Tracing.{highest, highest-end, highest-start, highest-step, objectEnd}

@@ -1,6 +1,6 @@
 -- Before class c is looked at, the greatest of it and those after it is the answer.
-use mathlib.Core.Path.{_≡_, refl, sym, ap, _∙_}
-use Prim.Native.Nat.{ℕ, _+_, _-_, _<_, _≤_}
+use mathlib.Core.Path.{_≡_, refl, sym, _∙_}
+use Prim.Native.Nat.{_-_}
 use borrow.Author.Needs.{needs}
 use Rattle.store.specs.Tracing.{cellAt, highest, highest-end, highest-step}
 use Rattle.store.proofs.trace.supers_end.Statement.{statement}

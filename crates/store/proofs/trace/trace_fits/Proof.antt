@@ -1,5 +1,5 @@
 -- No load, or levels that fall and leave what ends before their counts.
-use mathlib.Core.Path.{_≡_, refl, sym, ap, _∙_}
+use mathlib.Core.Path.{sym, _∙_}
 use borrow.Author.Needs.{needs}
 use borrow.Author.Tests.{not-false, not-true}
 use Rattle.classfile.specs.Lists.{every-fails, every-first, every-last}

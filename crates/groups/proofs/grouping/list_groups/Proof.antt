@@ -1,0 +1,14 @@
+-- Rows that name one request share a root, and only rows that a chain of ties joins.
+use denote.Ref.{now}
+use Rattle.groups.proofs.Tying.{roots-groups}
+use borrow.Author.Needs.{needs}
+use Rattle.groups.proofs.grouping.list_groups.Statement.{statement}
+use Rattle.groups.proofs.grouping.list_groups.Tie as tie
+
+returns : tie.Need-returns
+returns c =
+    let pre = c .before .before .before .before .before .before .before .before .before .before .before .before .before .before .pre in
+    roots-groups (now (c .before .before .before .before .before .before .before .before .before .before .before .before .before .before .args .ties)) (c .before .before .before .before .before .before .before .before .before .before .number-names .last .1 .1 .0) (c .before .before .before .before .before .before .before .before .before .before .before .before .before .before .args .n) (c .before .before .before .before .before .before .before .before .before .before .number-names .ensures) (pre .2) (pre .0) (c .before .before .before .before .before .before .claim-rows .ensures .1) (c .before .before .list-roots .last .1 .1 .0) (c .before .before .list-roots .ensures)
+
+pub list-groups-spec : {M : Type 1} → statement M
+list-groups-spec = tie.close (tie.spec (λ c. search needs) (λ c κs. search needs) (λ c. search needs) (λ c. search needs) (λ c κs. search needs) (λ c. search needs) (λ c κs. search needs) (λ c. search needs) returns)

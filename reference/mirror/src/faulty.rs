@@ -1,0 +1,14 @@
+//! The wrong machines as a Rust library: for the mirror behind the C interface, and for a program that names the one to be.
+
+mod chosen;
+pub mod faults;
+mod hidden;
+mod judged;
+mod listed;
+mod made;
+mod mapped;
+mod rates;
+mod shared;
+mod swept;
+mod taken;
+mod tried;

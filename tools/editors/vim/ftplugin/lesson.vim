@@ -1,0 +1,1 @@
+setlocal commentstring=#\ %s comments=b:#,b:>
