@@ -49,6 +49,10 @@ module _ (c : List ℕ) (n i : ℕ) where
   unfolding cellOf pick
   cell-behind a = rw (le-ltb i ownersCell (omega arith), pick, le-ltb i tieNumbersCell (omega arith), pick, le-ltb i subtypeNumbersCell (omega arith), pick, le-ltb i loadsCell a, pick) refl
 
+-- the cell of a list of all of them
+pub listed-at : (f : ℕ → ℕ) (i : ℕ) → i < countsLength → f i ≡ getD (rows f countsLength 0) i 0
+listed-at f i l = let z : 0 + i ≡ i = omega arith in sym (rows-getD f countsLength 0 i 0 l ∙ ap f z)
+
 -- Sections as lists
 
 -- the same rows from another place on
