@@ -1,5 +1,5 @@
 -- How old tables are judged: by lengths and counts that would leave no room for their rows' numbers, by today's test of the tables that would be filled, and by versions.
-use mathlib.Core.Path.{_≡_, refl, sym, ap, _∙_}
+use mathlib.Core.Path.{_≡_, refl, sym, ap, subst, _∙_}
 use mathlib.Core.Bool.{Bool, true, false, not, _&&_, false≢true}
 use mathlib.Core.List.{List}
 use Prim.Native.Nat.{ℕ, _<_, _≤_}
@@ -7,7 +7,7 @@ use native.Mathlib.Omega.{arith}
 use lib.ListN.{length, getD}
 use lib.Dec.{leb}
 use borrow.Author.Tests.{le-leb, not-false}
-use Rattle.definition.specs.Numbers.{countTies, ownersCell, tieLimit}
+use Rattle.definition.specs.Numbers.{countTies, ownersCell, tieLimit, countsLength}
 use Rattle.definition.specs.Lists.{rows, all}
 use Rattle.definition.specs.Tables.{Tables, tieAt, tiesOf, view, viewOver}
 use Rattle.definition.specs.Broken.{tieFits, sound, whole, broken}
@@ -18,6 +18,7 @@ use Rattle.layout.specs.Tests.{every-true}
 use Rattle.first.specs.Carries.{keepsLater}
 use Rattle.first.specs.Changeover.{broken-judged, unbroken-within}
 use Rattle.groups.specs.Numbered.{tiesFit, regrouped}
+use Rattle.changing.specs.Cells.{cellOf}
 use Rattle.changing.specs.Judged.{Judged}
 use Rattle.changing.proofs.Cells.{listed, listed-count, carried-counts, unfit-counts}
 
@@ -81,3 +82,18 @@ module _ (u : FirstTables) (eight : length (u .counts) ≡ ownersCell) (few : ge
         sound = ap not (q ∙ sym (broken-judged u ∙ rw (ap (λ (c : List ℕ). broken (withCounts c u)) (sym (carried-counts u eight few e)) ∙ h) refl));
         carried = λ _. carried-counts u eight few e;
       }
+
+-- the same of counts that were listed for n ties, and then grouped
+module _ (u : FirstTables) (eight : length (u .counts) ≡ ownersCell) (n : ℕ) (few : n ≤ tieLimit) (e : n ≡ getD (u .counts) countTies 0)
+    (m : List ℕ) (lists : m ≡ rows (cellOf (u .counts) n) countsLength 0) (k : List ℕ) (groups : k ≡ regrouped m (u .ties) (getD m countTies 0)) where
+  room : getD (u .counts) countTies 0 ≤ tieLimit
+  room = omega arith
+
+  is-given : k ≡ given u eight room
+  is-given = groups ∙ ap (λ (z : List ℕ). regrouped z (u .ties) (getD z countTies 0)) (lists ∙ ap (λ (x : ℕ). rows (cellOf (u .counts) x) countsLength 0) e)
+
+  pub told-broken : broken (withCounts k u) ≡ true → Judged u false k
+  told-broken h = subst (Judged u false) (sym is-given) (broken-judges u eight room (ap (λ (z : List ℕ). broken (withCounts z u)) (sym is-given) ∙ h))
+
+  pub told-versions : broken (withCounts k u) ≡ false → (l : Bool) → l ≡ keepsLater u → Judged u (not l) k
+  told-versions h l q = subst (Judged u (not l)) (sym is-given) (versions-judge u eight room (ap (λ (z : List ℕ). broken (withCounts z u)) (sym is-given) ∙ h) l q)
