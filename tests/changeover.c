@@ -1,4 +1,5 @@
 /* The changeover as C programs call it: every cell that it fills, its refusals, which write no new cell, and old tables that may only be read. */
+#define _DEFAULT_SOURCE
 #include <stdio.h>
 #include <string.h>
 #include <sys/mman.h>
