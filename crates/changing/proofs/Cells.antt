@@ -112,7 +112,7 @@ module _ (c : List ℕ) (n : ℕ) (eight : length c ≡ ownersCell) where
 
 -- Groups written behind them
 
-filled-none : (k : ℕ) → filled k 0 [] ≡ replicate k 0
+filled-none : (k : ℕ) → filled {A = ℕ} k 0 [] ≡ replicate k 0
 unfolding filled
 filled-none zero = refl
 filled-none (suc k) = λ i. 0 ∷ filled-none k i

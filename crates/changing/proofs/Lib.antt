@@ -1,5 +1,5 @@
 -- Laws that the proofs of this crate share.
-pub mod Copying
+pub mod Copies
 pub mod Cells
 pub mod Later
 pub mod Judging

@@ -56,8 +56,8 @@ pub(crate) fn fill(
     objects: &mut [u32],
     frames: &mut [u32],
 )
-    requires { ⌜ SameLengths (tables (now new_counts) (now new_classes) (now new_kept) (now new_cache) (now new_ties) (now new_subtypes) (now new_objects) (now new_frames)) (tables (now counts) (now classes) (now kept) (now cache) (now ties) (now subtypes) (now objects) (now frames)) ⌝ }
-    ensures { λ _. ⌜ tables (now (counts .exit)) (now (classes .exit)) (now (kept .exit)) (now (cache .exit)) (now (ties .exit)) (now (subtypes .exit)) (now (objects .exit)) (now (frames .exit)) ≡ tables (now (new_counts .entry)) (now (new_classes .entry)) (now (new_kept .entry)) (now (new_cache .entry)) (now (new_ties .entry)) (now (new_subtypes .entry)) (now (new_objects .entry)) (now (new_frames .entry)) ⌝ }
+    requires { ⌜ SameLengths (tables (now «new_counts») (now «new_classes») (now «new_kept») (now «new_cache») (now «new_ties») (now «new_subtypes») (now «new_objects») (now «new_frames»)) (tables (now counts) (now classes) (now kept) (now cache) (now ties) (now subtypes) (now objects) (now frames)) ⌝ }
+    ensures { λ _. ⌜ tables (now (counts .exit)) (now (classes .exit)) (now (kept .exit)) (now (cache .exit)) (now (ties .exit)) (now (subtypes .exit)) (now (objects .exit)) (now (frames .exit)) ≡ tables (now («new_counts» .entry)) (now («new_classes» .entry)) (now («new_kept» .entry)) (now («new_cache» .entry)) (now («new_ties» .entry)) (now («new_subtypes» .entry)) (now («new_objects» .entry)) (now («new_frames» .entry)) ⌝ }
 {
     copy16(new_counts, counts);
     copy16(new_classes, classes);

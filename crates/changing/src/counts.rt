@@ -18,7 +18,7 @@ const QUOTE_OWNS: u16 = 1;
 // Cell i, where the old store has n ties.
 fn cell_of(old_counts: &[u16], n: u16, i: usize) -> u16
     requires { ⌜ n ≤ tieLimit ⌝ }
-    ensures { λ r. ⌜ r ≡ cellOf (now (old_counts .entry)) n i ⌝ }
+    ensures { λ r. ⌜ r ≡ cellOf (now («old_counts» .entry)) n i ⌝ }
 {
     if i < OWNERS_CELL {
         return at16(old_counts, i);
@@ -38,7 +38,7 @@ fn cell_of(old_counts: &[u16], n: u16, i: usize) -> u16
 // All of them.
 pub(crate) fn list_cells(carried: &mut [u16], old_counts: &[u16], n: u16)
     requires { ⌜ (n ≤ tieLimit) × (length (now carried) ≡ countsLength) ⌝ }
-    ensures { λ _. ⌜ now (carried .exit) ≡ rows (cellOf (now (old_counts .entry)) n) countsLength 0 ⌝ }
+    ensures { λ _. ⌜ now (carried .exit) ≡ rows (cellOf (now («old_counts» .entry)) n) countsLength 0 ⌝ }
 {
     let mut i = 0;
     while i < COUNTS_LENGTH {

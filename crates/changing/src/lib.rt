@@ -35,7 +35,7 @@ fn judge(
     old_frames: &[u32],
 ) -> bool
     requires { ⌜ length (now carried) ≡ countsLength ⌝ }
-    ensures { λ r. ⌜ Judged (tables (now (old_counts .entry)) (now (old_classes .entry)) (now (old_kept .entry)) (now (old_cache .entry)) (now (old_ties .entry)) (now (old_subtypes .entry)) (now (old_objects .entry)) (now (old_frames .entry))) r (now (carried .exit)) ⌝ }
+    ensures { λ r. ⌜ Judged (tables (now («old_counts» .entry)) (now («old_classes» .entry)) (now («old_kept» .entry)) (now («old_cache» .entry)) (now («old_ties» .entry)) (now («old_subtypes» .entry)) (now («old_objects» .entry)) (now («old_frames» .entry))) r (now (carried .exit)) ⌝ }
 {
     if old_counts.len() != OWNERS_CELL {
         return false;
@@ -80,7 +80,7 @@ pub fn change_over(
     objects: &mut [u32],
     frames: &mut [u32],
 ) -> Reply
-    ensures { λ r. ⌜ done r (tables (now (counts .exit)) (now (classes .exit)) (now (kept .exit)) (now (cache .exit)) (now (ties .exit)) (now (subtypes .exit)) (now (objects .exit)) (now (frames .exit))) ≡ changeover (tables (now (old_counts .entry)) (now (old_classes .entry)) (now (old_kept .entry)) (now (old_cache .entry)) (now (old_ties .entry)) (now (old_subtypes .entry)) (now (old_objects .entry)) (now (old_frames .entry))) (tables (now (counts .entry)) (now (classes .entry)) (now (kept .entry)) (now (cache .entry)) (now (ties .entry)) (now (subtypes .entry)) (now (objects .entry)) (now (frames .entry))) ⌝ }
+    ensures { λ r. ⌜ done r (tables (now (counts .exit)) (now (classes .exit)) (now (kept .exit)) (now (cache .exit)) (now (ties .exit)) (now (subtypes .exit)) (now (objects .exit)) (now (frames .exit))) ≡ changeover (tables (now («old_counts» .entry)) (now («old_classes» .entry)) (now («old_kept» .entry)) (now («old_cache» .entry)) (now («old_ties» .entry)) (now («old_subtypes» .entry)) (now («old_objects» .entry)) (now («old_frames» .entry))) (tables (now (counts .entry)) (now (classes .entry)) (now (kept .entry)) (now (cache .entry)) (now (ties .entry)) (now (subtypes .entry)) (now (objects .entry)) (now (frames .entry))) ⌝ }
 {
     if !store::is_shaped(
         counts,

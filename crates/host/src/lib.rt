@@ -387,7 +387,7 @@ pub extern "C" fn tariff_change_over(
     frames: &mut [u32],
     answer: &mut [u32],
 ) -> u8
-    ensures { λ r. ⌜ ChangedOver (tables (now (old_counts .entry)) (now (old_classes .entry)) (now (old_kept .entry)) (now (old_cache .entry)) (now (old_ties .entry)) (now (old_subtypes .entry)) (now (old_objects .entry)) (now (old_frames .entry))) (tables (now (counts .entry)) (now (classes .entry)) (now (kept .entry)) (now (cache .entry)) (now (ties .entry)) (now (subtypes .entry)) (now (objects .entry)) (now (frames .entry))) (tables (now (counts .exit)) (now (classes .exit)) (now (kept .exit)) (now (cache .exit)) (now (ties .exit)) (now (subtypes .exit)) (now (objects .exit)) (now (frames .exit))) (now (answer .entry)) (now (answer .exit)) r ⌝ }
+    ensures { λ r. ⌜ ChangedOver (tables (now («old_counts» .entry)) (now («old_classes» .entry)) (now («old_kept» .entry)) (now («old_cache» .entry)) (now («old_ties» .entry)) (now («old_subtypes» .entry)) (now («old_objects» .entry)) (now («old_frames» .entry))) (tables (now (counts .entry)) (now (classes .entry)) (now (kept .entry)) (now (cache .entry)) (now (ties .entry)) (now (subtypes .entry)) (now (objects .entry)) (now (frames .entry))) (tables (now (counts .exit)) (now (classes .exit)) (now (kept .exit)) (now (cache .exit)) (now (ties .exit)) (now (subtypes .exit)) (now (objects .exit)) (now (frames .exit))) (now (answer .entry)) (now (answer .exit)) r ⌝ }
 {
     let reply = changing::change_over(
         old_counts,

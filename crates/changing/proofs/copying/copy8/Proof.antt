@@ -4,7 +4,7 @@ use mathlib.Core.Path.{sym, _∙_}
 use native.Mathlib.Omega.{arith}
 use lib.ListN.{length}
 use borrow.Author.Needs.{needs}
-use Rattle.changing.proofs.Copying.{Copying, copying-start, copying-more, copying-end}
+use Rattle.changing.proofs.Copies.{Copying, copying-start, copying-more, copying-end}
 use Rattle.changing.proofs.copying.copy8.Statement.{statement}
 use Rattle.changing.proofs.copying.copy8.Tie as tie
 
