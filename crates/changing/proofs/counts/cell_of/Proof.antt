@@ -21,4 +21,4 @@ returns-5 : tie.Need-returns-5
 returns-5 c = cell-behind _ _ _ (c .if4 .left)
 
 pub cell-of-spec : {M : Type 1} → statement M
-cell-of-spec = tie.close (tie.spec (λ c κs. search needs) returns returns-2 (λ c. search needs) (λ c. search needs) returns-3 (λ c. search needs) (λ c. search needs) (λ c. search needs) returns-4 returns-5)
+cell-of-spec = tie.close (tie.spec (λ c κs. search needs) returns returns-2 (λ c. search needs) returns-3 (λ c. search needs) (λ c. search needs) returns-4 returns-5)
