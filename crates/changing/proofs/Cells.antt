@@ -64,9 +64,9 @@ rows-alike f g (suc k) i j h =
     let b : j + 0 ≡ j = omega arith in
     let z : f i ≡ g j = ap f a ∙ (h 0 (omega arith) ∙ ap g b) in
     let zs : rows f k (suc i) ≡ rows g k (suc j) = rows-alike f g k (suc i) (suc j) (λ m l.
-        let p : suc i + m ≡ i + suc m = omega arith in
-        let q : j + suc m ≡ suc j + m = omega arith in
-        ap f p ∙ (h (suc m) (omega arith) ∙ ap g q)) in
+    let p : suc i + m ≡ i + suc m = omega arith in
+    let q : j + suc m ≡ suc j + m = omega arith in
+    ap f p ∙ (h (suc m) (omega arith) ∙ ap g q)) in
     λ x. z x ∷ zs x
 
 rows-one : (x k i : ℕ) → rows (λ _. x) k i ≡ replicate k x
