@@ -1,4 +1,4 @@
--- What carrying a plan out writes: the ties that are posted, with their numbers, a field or an object's row with its owner, cells of the task's frames, and their counts. Nothing is
+-- What carrying a plan out writes: the ties that are posted, with their numbers and groups, a field or an object's row with its owner, cells of the task's frames, and their counts. Nothing is
 -- asked of the tables but that task k has m frames below its top frame.
 use mathlib.Core.Path.{_≡_, refl, sym, ap, _∙_}
 use mathlib.Core.Bool.{Bool, true, false, false≢true}
@@ -12,18 +12,21 @@ use Rattle.definition.specs.declared.Refusal.{Refusal}
 use Rattle.definition.specs.declared.Answer.{Answer}
 use Rattle.definition.specs.declared.Answer.the-variants.{Idle, Ran, Finished, Refused}
 use Rattle.definition.specs.Answers.{_>>=_, take?}
-use Rattle.definition.specs.Numbers.{tieNumbersCell, loadsCell}
+use Rattle.definition.specs.Numbers.{countTies, tieNumbersCell, loadsCell}
 use Rattle.definition.specs.Lists.{rows, writeRows, stack}
 use Rattle.definition.specs.Classes.{Base, Slot, slots}
 use Rattle.definition.specs.Constraints.{Tie, posted}
 use Rattle.definition.specs.Machine.{Value, objectValue, emptyValue, Objects, Frame, unused, made, newObject, entryFrame, Progress, give, initialValue}
 use Rattle.definition.specs.Tables.{Tables, tables, putTie, putNumber, valueOf, objectAt, putObject, putField, sizeOf, usedFields, operandAt, putOperand, putLocal, frameOf, putFrame, frameBase, frameIn, objectsOf, viewOver, put}
+use Rattle.definition.specs.Broken.{grouped}
 use Rattle.definition.specs.Calls.{numbersFrom, given, closed, progressed, answerOf, Done, done, carried}
 use Rattle.laws.specs.Arguments.{filled-length}
-use Rattle.layout.specs.Places.{rows-map, stack-top}
+use Rattle.layout.specs.Places.{rows-length, rows-map, stack-top}
 use Rattle.layout.specs.Cells.{rows-back, cell-rows, moved}
 use Rattle.layout.specs.OwnedRows.{rowsWith}
-use Rattle.layout.specs.View.{countAt, FillsObjects, FillsTask, objects-fill, object-made, object-set, progress-writes, none-left, top-kept, top-above, top-local, top-given, top-entered}
+use Rattle.layout.specs.NumberedRows.{numbers-behind}
+use Rattle.layout.specs.GroupedRows.{SameGroups}
+use Rattle.layout.specs.View.{countAt, FillsObjects, FillsTask, objects-fill, object-made, object-set, regrouped, regrouped-none, progress-writes, none-left, top-kept, top-above, top-local, top-given, top-entered}
 use Rattle.frames.specs.Initial.{initialOf, initialObject, initial-value}
 use Rattle.frames.specs.Unused.{isUsed, unusedFrom, used-row, used-there, unused-is, used-set, unused-set}
 use Rattle.resolution.specs.Quick.{quickBase}
@@ -47,6 +50,17 @@ planned B t k m q us p =
 -- the ties us, posted behind the rows of the counts N, get the next numbers; these are written last
 abbrev pub numberedTies : List ℕ → List Tie → List ℕ → List ℕ
 numberedTies N us x = writeRows (putNumber tieNumbersCell) (numbersFrom (getD N 3 0 + getD N 4 0) (length us)) (getD N 3 0) x
+
+-- groups with the ties us, posted behind those of t; where there are none nothing is written
+abbrev pub groupedOn : Base → Tables → List Tie → List ℕ → List ℕ
+groupedOn B t [] x = x
+groupedOn B t (u ∷ us) x = regrouped B t (getD (t .counts) 3 0 + getD (t .counts) 4 0) (u ∷ us) x
+
+-- groups that are right stay where none was posted
+grouped-on : (B : Base) (t : Tables) (us : List Tie) (x : List ℕ) → grouped t ≡ true → SameGroups (t .counts) x
+    → regrouped B t (getD (t .counts) 3 0 + getD (t .counts) 4 0) us x ≡ groupedOn B t us x
+grouped-on B t [] x g s = regrouped-none B t (getD (t .counts) 3 0 + getD (t .counts) 4 0) x g s
+grouped-on B t (u ∷ us) x g s = refl
 
 -- a step that ran or finished closes the loads before it; of the counts that is one cell
 abbrev pub closedBy : Answer → List ℕ → List ℕ
@@ -84,12 +98,31 @@ pub record Ready (B : Base) (t : Tables) (k m b : ℕ) (us : List Tie) (p : Plan
   pub ties : countAt t 3 + length us ≤ 256
   pub quiet : Quiet us p
   pub fits : Fit B t k m p
+  pub groups : grouped t ≡ true
 
 -- The tables after ties were posted, and then n frames of task k and m objects counted
 
-module _ (B : Base) (t : Tables) (k m q : ℕ) (us : List Tie) (two : k < 2) (room : countAt t 3 + length us ≤ 256) where
+module _ (B : Base) (t : Tables) (k m q : ℕ) (us : List Tie) (two : k < 2) (room : countAt t 3 + length us ≤ 256) (right : grouped t ≡ true) where
   abbrev counts : List ℕ
   counts = set (t .counts) 3 (countAt t 3 + length us)
+
+  -- what a step else writes of the counts lies before the groups
+  same-groups : (x : List ℕ) → SameGroups (t .counts) x → SameGroups (t .counts) (set (numberedTies (t .counts) us x) loadsCell 0)
+  same-groups x s = λ j l.
+      getD-set-other (numberedTies (t .counts) us x) loadsCell j 0 0 (λ e. omega arith)
+      ∙ (numbers-behind tieNumbersCell (numbersFrom (countAt t 3 + countAt t 4) (length us)) (countAt t 3) x j (omega (arith, rows-length (λ i. i) (length us) (countAt t 3 + countAt t 4), room, l)) ∙ s j l)
+
+  counted-groups : (n : ℕ) → SameGroups (t .counts) (set counts (6 + k) n)
+  counted-groups n = λ j l. getD-set-other counts (6 + k) j n 0 (λ e. omega arith) ∙ getD-set-other (t .counts) 3 j (countAt t 3 + length us) 0 (λ e. omega arith)
+
+  made-groups : (a o w : ℕ) → o < 256 → SameGroups (t .counts) (set (set counts 5 a) (8 + o) w)
+  made-groups a o w h = λ j l.
+      getD-set-other (set counts 5 a) (8 + o) j w 0 (λ e. omega arith)
+      ∙ (getD-set-other counts 5 j a 0 (λ e. omega arith) ∙ getD-set-other (t .counts) 3 j (countAt t 3 + length us) 0 (λ e. omega arith))
+
+  regroups : (x : List ℕ) → SameGroups (t .counts) x
+      → regrouped B t (countAt t 3 + countAt t 4) us (set (numberedTies (t .counts) us x) loadsCell 0) ≡ groupedOn B t us (set (numberedTies (t .counts) us x) loadsCell 0)
+  regroups x s = grouped-on B t us (set (numberedTies (t .counts) us x) loadsCell 0) right (same-groups x s)
 
   abbrev ties : List ℕ
   ties = writeRows putTie us (countAt t 3) (t .ties)
@@ -99,10 +132,12 @@ module _ (B : Base) (t : Tables) (k m q : ℕ) (us : List Tie) (two : k < 2) (ro
 
   -- objects as many as before
   same-objects : (os : Objects) (fs : List Frame) (x : Option ℕ) (n : ℕ) (o u : List ℕ) → FillsObjects os (t .counts) (t .objects) (countAt t 5) (λ d. d) o → FillsTask k fs t n u
-      → put (closed (progressed k (viewOver B t) (leaves os fs x))) t ≡ tables (set (numberedTies (t .counts) us (set counts (6 + k) n)) loadsCell 0) (t .classes) (t .kept) (t .cache) ties (t .subtypes) o u
+      → put (closed (progressed k (viewOver B t) (leaves os fs x))) t
+      ≡ tables (groupedOn B t us (set (numberedTies (t .counts) us (set counts (6 + k) n)) loadsCell 0)) (t .classes) (t .kept) (t .cache) ties (t .subtypes) o u
   same-objects os fs x n o u g h =
       progress-writes B t k (leaves os fs x) us (countAt t 5) n (λ d. d) o u two room refl g h
-      ∙ ap (λ z. tables (set (numberedTies (t .counts) us (set z (6 + k) n)) loadsCell 0) (t .classes) (t .kept) (t .cache) ties (t .subtypes) o u) five
+      ∙ (ap (λ z. tables (regrouped B t (countAt t 3 + countAt t 4) us (set (numberedTies (t .counts) us (set z (6 + k) n)) loadsCell 0)) (t .classes) (t .kept) (t .cache) ties (t .subtypes) o u) five
+      ∙ ap (λ z. tables z (t .classes) (t .kept) (t .cache) ties (t .subtypes) o u) (regroups (set counts (6 + k) n) (counted-groups n)))
     where
       five : set counts 5 (countAt t 5) ≡ counts
       five = rw (← getD-set-other (t .counts) 3 5 (countAt t 3 + length us) 0 (λ e. omega arith)) (set-getD counts 5 0)
@@ -112,9 +147,10 @@ module _ (B : Base) (t : Tables) (k m q : ℕ) (us : List Tie) (two : k < 2) (ro
   frame-count n e = rw (← e, ← getD-set-other (t .counts) 3 (6 + k) (countAt t 3 + length us) 0 (λ z. omega arith)) (set-getD counts (6 + k) 0)
 
   top-frame : (os : Objects) (fs : List Frame) (o u : List ℕ) → countAt t (6 + k) ≡ suc m → FillsObjects os (t .counts) (t .objects) (countAt t 5) (λ d. d) o → FillsTask k fs t (suc m) u
-      → put (closed (progressed k (viewOver B t) (leaves os fs none))) t ≡ tables (set (numberedTies (t .counts) us counts) loadsCell 0) (t .classes) (t .kept) (t .cache) ties (t .subtypes) o u
+      → put (closed (progressed k (viewOver B t) (leaves os fs none))) t
+      ≡ tables (groupedOn B t us (set (numberedTies (t .counts) us counts) loadsCell 0)) (t .classes) (t .kept) (t .cache) ties (t .subtypes) o u
   top-frame os fs o u e g h =
-      same-objects os fs none (suc m) o u g h ∙ ap (λ z. tables (set (numberedTies (t .counts) us z) loadsCell 0) (t .classes) (t .kept) (t .cache) ties (t .subtypes) o u) (frame-count (suc m) e)
+      same-objects os fs none (suc m) o u g h ∙ ap (λ z. tables (groupedOn B t us (set (numberedTies (t .counts) us z) loadsCell 0)) (t .classes) (t .kept) (t .cache) ties (t .subtypes) o u) (frame-count (suc m) e)
 
 -- What each plan leaves: C and I are the counts and the ties where the ties us were posted, b is where the top frame's row begins
 
@@ -126,81 +162,84 @@ module _ (B : Base) (N L K E I S O F : List ℕ) (k m b q : ℕ) (us : List Tie)
   abbrev plans : Done Answer
   plans = planned B before k m q us p
 
-  pub out-refuse : (w : Refusal) → p ≡ Refuse w → done (Refused w) (tables (numberedTies N us C) L K E J S O F) ≡ plans
+  pub out-refuse : (w : Refusal) → p ≡ Refuse w → done (Refused w) (tables (groupedOn B before us (numberedTies N us C)) L K E J S O F) ≡ plans
   unfolding planned meaning _>>=_ carried writeRows rows
   out-refuse w e =
       let h : us ≡ [] = rw e at (r .quiet) in
       let z : getD N 3 0 + 0 ≡ getD N 3 0 = omega arith in
       rw (e, c, j, h, z, set-getD N 3 0)
 
-  pub out-keep : (d : ℕ) (G : List ℕ) → p ≡ Keep d → G ≡ moved F b q d → done (Ran k) (tables (set (numberedTies N us C) loadsCell 0) L K E J S O G) ≡ plans
+  pub out-keep : (d : ℕ) (G : List ℕ) → p ≡ Keep d → G ≡ moved F b q d → done (Ran k) (tables (groupedOn B before us (set (numberedTies N us C) loadsCell 0)) L K E J S O G) ≡ plans
   unfolding planned meaning _>>=_ carried answerOf
   out-keep d G e g =
       rw (e, c, j, g, r .row)
-      (ap (done (Ran k)) (sym (top-frame B before k m q us (r .two) (r .ties) (objectsOf B before) (frameOf F (frameBase k m) q d ∷ stack (frameIn F k) m) O
+      (ap (done (Ran k)) (sym (top-frame B before k m q us (r .two) (r .ties) (r .groups) (objectsOf B before) (frameOf F (frameBase k m) q d ∷ stack (frameIn F k) m) O
       (moved F (frameBase k m) q d) (r .count) (objects-fill before B) (top-kept before k m (r .low) q d))))
 
-  pub out-jump : (d x : ℕ) (G : List ℕ) → p ≡ Jump d x → G ≡ moved F b x d → done (Ran k) (tables (set (numberedTies N us C) loadsCell 0) L K E J S O G) ≡ plans
+  pub out-jump : (d x : ℕ) (G : List ℕ) → p ≡ Jump d x → G ≡ moved F b x d → done (Ran k) (tables (groupedOn B before us (set (numberedTies N us C) loadsCell 0)) L K E J S O G) ≡ plans
   unfolding planned meaning _>>=_ carried answerOf
   out-jump d x G e g =
       rw (e, c, j, g, r .row)
-      (ap (done (Ran k)) (sym (top-frame B before k m q us (r .two) (r .ties) (objectsOf B before) (frameOf F (frameBase k m) x d ∷ stack (frameIn F k) m) O
+      (ap (done (Ran k)) (sym (top-frame B before k m q us (r .two) (r .ties) (r .groups) (objectsOf B before) (frameOf F (frameBase k m) x d ∷ stack (frameIn F k) m) O
       (moved F (frameBase k m) x d) (r .count) (objects-fill before B) (top-kept before k m (r .low) x d))))
 
   pub out-above : (d : ℕ) (v : Cell) (G : List ℕ) → p ≡ Above d v → G ≡ putOperand b (moved F b q (d + 1)) d (valueOf (v .kind) (v .bits))
-      → done (Ran k) (tables (set (numberedTies N us C) loadsCell 0) L K E J S O G) ≡ plans
+      → done (Ran k) (tables (groupedOn B before us (set (numberedTies N us C) loadsCell 0)) L K E J S O G) ≡ plans
   unfolding planned meaning _>>=_ carried answerOf
   out-above d v G e g =
       let f : d < 16 = rw e at (r .fits) in
       rw (e, c, j, g, r .row)
-      (ap (done (Ran k)) (sym (top-frame B before k m q us (r .two) (r .ties) (objectsOf B before) _ O
+      (ap (done (Ran k)) (sym (top-frame B before k m q us (r .two) (r .ties) (r .groups) (objectsOf B before) _ O
       (putOperand (frameBase k m) (moved F (frameBase k m) q (d + 1)) d (valueOf (v .kind) (v .bits))) (r .count) (objects-fill before B) (top-above before k m (r .low) q d (valueOf (v .kind) (v .bits)) f))))
 
   pub out-local : (d i : ℕ) (v : Cell) (G : List ℕ) → p ≡ Local d i v → G ≡ putLocal b (moved F b q d) i (valueOf (v .kind) (v .bits))
-      → done (Ran k) (tables (set (numberedTies N us C) loadsCell 0) L K E J S O G) ≡ plans
+      → done (Ran k) (tables (groupedOn B before us (set (numberedTies N us C) loadsCell 0)) L K E J S O G) ≡ plans
   unfolding planned meaning _>>=_ carried answerOf
   out-local d i v G e g =
       let f : i < 8 = rw e at (r .fits) in
       rw (e, c, j, g, r .row)
-      (ap (done (Ran k)) (sym (top-frame B before k m q us (r .two) (r .ties) (objectsOf B before) _ O
+      (ap (done (Ran k)) (sym (top-frame B before k m q us (r .two) (r .ties) (r .groups) (objectsOf B before) _ O
       (putLocal (frameBase k m) (moved F (frameBase k m) q d) i (valueOf (v .kind) (v .bits))) (r .count) (objects-fill before B) (top-local before k m (r .low) q d i (valueOf (v .kind) (v .bits)) f))))
 
   pub out-field : (d o i : ℕ) (v : Cell) (G P : List ℕ) → p ≡ Field d o i v → G ≡ moved F b q d → P ≡ putField o O i (valueOf (v .kind) (v .bits))
-      → done (Ran k) (tables (set (numberedTies N us C) loadsCell 0) L K E J S P G) ≡ plans
+      → done (Ran k) (tables (groupedOn B before us (set (numberedTies N us C) loadsCell 0)) L K E J S P G) ≡ plans
   unfolding planned meaning _>>=_ carried answerOf take?
   out-field d o i v G P e g h =
       let f : (isUsed N o ≡ true) × (i < usedFields B (objectAt B O o .class)) = rw e at (r .fits) in
       let l = used-row N o (f .0) in
       rw (e, c, j, g, h, r .row, used-there B before o (f .0))
-      (ap (done (Ran k)) (sym (top-frame B before k m q us (r .two) (r .ties) _ _ (putField o O i (valueOf (v .kind) (v .bits))) (moved F (frameBase k m) q d) (r .count)
+      (ap (done (Ran k)) (sym (top-frame B before k m q us (r .two) (r .ties) (r .groups) _ _ (putField o O i (valueOf (v .kind) (v .bits))) (moved F (frameBase k m) q d) (r .count)
       (object-set before B o i (valueOf (v .kind) (v .bits)) (l .0) (l .1) (f .1)) (top-kept before k m (r .low) q d))))
 
   pub out-enter : (d : ℕ) (x : Invocation) (D G : List ℕ) → p ≡ Enter d x → D ≡ set C (6 + k) (m + 2)
-      → G ≡ putFrame (moved F b q d) (frameBase k (m + 1)) (entryFrame (x .class) (x .method) (x .object) (rows (operandAt F b) (x .count) (d + 1))) → done (Ran k) (tables (set (numberedTies N us D) loadsCell 0) L K E J S O G) ≡ plans
+      → G ≡ putFrame (moved F b q d) (frameBase k (m + 1)) (entryFrame (x .class) (x .method) (x .object) (rows (operandAt F b) (x .count) (d + 1))) → done (Ran k) (tables (groupedOn B before us (set (numberedTies N us D) loadsCell 0)) L K E J S O G) ≡ plans
   unfolding planned meaning _>>=_ carried answerOf
   out-enter d x D G e f g =
       let h : (suc m < 32) × (x .count ≤ 4) × (d + x .count < 16) = rw e at (r .fits) in
       let y : m + 2 ≡ suc (suc m) = omega arith in
       let z : m + 1 ≡ suc m = omega arith in
       rw (e, f, g, c, j, r .row, y, z)
-      (ap (done (Ran k)) (sym (same-objects B before k m q us (r .two) (r .ties) (objectsOf B before) _ none (suc (suc m)) O
+      (ap (done (Ran k)) (sym (same-objects B before k m q us (r .two) (r .ties) (r .groups) (objectsOf B before) _ none (suc (suc m)) O
       (putFrame (moved F (frameBase k m) q d) (frameBase k (suc m)) (entryFrame (x .class) (x .method) (x .object) (rows (operandAt F (frameBase k m)) (x .count) (d + 1)))) (objects-fill before B)
       (top-entered before k m (r .low) q d (entryFrame (x .class) (x .method) (x .object) (rows (operandAt F (frameBase k m)) (x .count) (d + 1))) (h .0) (omega arith)
       (omega (arith, filled-length 8 emptyValue (objectValue (x .object) ∷ rows (operandAt F (frameBase k m)) (x .count) (d + 1))))))))
 
   -- the count n of objects rises only if row o is the next
   pub out-make : (d s o n : ℕ) (D G P : List ℕ) → p ≡ Make d s o → n ≡ getD N 5 0 → D ≡ set (set C 5 (rowsWith o n)) (8 + o) (suc k)
-      → G ≡ putOperand b (moved F b q (d + 1)) d (objectValue o) → P ≡ putObject O o (newObject B s) → done (Ran k) (tables (set (numberedTies N us D) loadsCell 0) L K E J S P G) ≡ plans
+      → G ≡ putOperand b (moved F b q (d + 1)) d (objectValue o) → P ≡ putObject O o (newObject B s) → done (Ran k) (tables (groupedOn B before us (set (numberedTies N us D) loadsCell 0)) L K E J S P G) ≡ plans
   unfolding planned meaning _>>=_ carried answerOf
   out-make d s o n D G P e a f g h =
       let w : (d < 16) × (o ≡ unusedFrom N 0) × (o < 256) × (sizeOf B s ≤ 16) = rw e at (r .fits) in
       rw (e, f, g, h, a, c, j, r .row)
       (ap (done (Ran k)) (sym (
-      progress-writes B before k (leaves B before k m q us (r .two) (r .ties) _ _ none) us (rowsWith o (getD N 5 0)) (suc m) (λ x. set x (8 + o) (suc k)) (putObject O o (newObject B s))
+      progress-writes B before k (leaves B before k m q us (r .two) (r .ties) (r .groups) _ _ none) us (rowsWith o (getD N 5 0)) (suc m) (λ x. set x (8 + o) (suc k)) (putObject O o (newObject B s))
       (putOperand (frameBase k m) (moved F (frameBase k m) q (d + 1)) d (objectValue o)) (r .two) (r .ties) refl (fills (w .2) (w .1 ∙ unused-is B before))
       (top-above before k m (r .low) q d (objectValue o) (w .0))
-      ∙ ap (λ z. tables (set (numberedTies N us (set z (8 + o) (suc k))) loadsCell 0) L K E (writeRows putTie us (getD N 3 0) I) S (putObject O o (newObject B s)) (putOperand (frameBase k m) (moved F (frameBase k m) q (d + 1)) d (objectValue o)))
-      (frames (rowsWith o (getD N 5 0))))))
+      ∙ (ap (λ z. tables (regrouped B before (getD N 3 0 + getD N 4 0) us (set (numberedTies N us (set z (8 + o) (suc k))) loadsCell 0)) L K E (writeRows putTie us (getD N 3 0) I) S (putObject O o (newObject B s)) (putOperand (frameBase k m) (moved F (frameBase k m) q (d + 1)) d (objectValue o)))
+      (frames (rowsWith o (getD N 5 0)))
+      ∙ ap (λ z. tables z L K E (writeRows putTie us (getD N 3 0) I) S (putObject O o (newObject B s)) (putOperand (frameBase k m) (moved F (frameBase k m) q (d + 1)) d (objectValue o)))
+      (regroups B before k m q us (r .two) (r .ties) (r .groups) (set (set (set N 3 (getD N 3 0 + length us)) 5 (rowsWith o (getD N 5 0))) (8 + o) (suc k))
+      (made-groups B before k m q us (r .two) (r .ties) (r .groups) (rowsWith o (getD N 5 0)) o (suc k) (w .2)))))))
     where
       fills : o < 256 → o ≡ unused (objectsOf B before)
           → FillsObjects (made k (newObject B s) (objectsOf B before)) N O (rowsWith o (getD N 5 0)) (λ x. set x (8 + o) (suc k)) (putObject O o (newObject B s))
@@ -213,15 +252,15 @@ module _ (B : Base) (N L K E I S O F : List ℕ) (k m b q : ℕ) (us : List Tie)
           getD-set-other A 5 (6 + k) x 0 (λ e. omega arith) ∙ (getD-set-other N 3 (6 + k) (getD N 3 0 + length us) 0 (λ e. omega arith) ∙ r .count) in
           rw (← z) (set-getD (set A 5 x) (6 + k) 0)
 
-  pub out-finish : (v : ℕ) (D : List ℕ) → p ≡ Finish v → D ≡ set C (6 + k) 0 → done (Finished k v) (tables (set (numberedTies N us D) loadsCell 0) L K E J S O F) ≡ plans
+  pub out-finish : (v : ℕ) (D : List ℕ) → p ≡ Finish v → D ≡ set C (6 + k) 0 → done (Finished k v) (tables (groupedOn B before us (set (numberedTies N us D) loadsCell 0)) L K E J S O F) ≡ plans
   unfolding planned meaning _>>=_ carried answerOf
   out-finish v D e f =
       rw (e, f, c, j)
-      (ap (done (Finished k v)) (sym (same-objects B before k m q us (r .two) (r .ties) (objectsOf B before) [] (some v) 0 O F (objects-fill before B) (none-left before k))))
+      (ap (done (Finished k v)) (sym (same-objects B before k m q us (r .two) (r .ties) (r .groups) (objectsOf B before) [] (some v) 0 O F (objects-fill before B) (none-left before k))))
 
   -- the frame below is at a, with d operands
   pub out-give : (v : Cell) (a d : ℕ) (D G : List ℕ) → p ≡ Give v → a ≡ frameBase k (m - 1) → d ≡ getD F (a + 3) 0 → D ≡ set C (6 + k) m
-      → G ≡ putOperand a (set F (a + 3) (d + 1)) d (valueOf (v .kind) (v .bits)) → done (Ran k) (tables (set (numberedTies N us D) loadsCell 0) L K E J S O G) ≡ plans
+      → G ≡ putOperand a (set F (a + 3) (d + 1)) d (valueOf (v .kind) (v .bits)) → done (Ran k) (tables (groupedOn B before us (set (numberedTies N us D) loadsCell 0)) L K E J S O G) ≡ plans
   unfolding planned meaning _>>=_ carried answerOf give
   out-give v a d D G e x y f g =
       let h : (0 < m) × (getD F (frameBase k (m - 1) + 3) 0 < 16) = rw e at (r .fits) in
@@ -229,9 +268,9 @@ module _ (B : Base) (N L K E I S O F : List ℕ) (k m b q : ℕ) (us : List Tie)
       let z : d ≡ getD F (frameBase k (m - 1) + 3) 0 = rw x at y in
       rw (e, f, g, c, j, x, stack-top (frameIn F k) m (h .0))
       (ap (done (Ran k)) (sym (
-      same-objects B before k m q us (r .two) (r .ties) (objectsOf B before) _ none (suc (m - 1)) O (putOperand (frameBase k (m - 1)) (set F (frameBase k (m - 1) + 3) (d + 1)) d (valueOf (v .kind) (v .bits)))
+      same-objects B before k m q us (r .two) (r .ties) (r .groups) (objectsOf B before) _ none (suc (m - 1)) O (putOperand (frameBase k (m - 1)) (set F (frameBase k (m - 1) + 3) (d + 1)) d (valueOf (v .kind) (v .bits)))
       (objects-fill before B) (top-given before k (m - 1) (omega (arith, r .low)) d (valueOf (v .kind) (v .bits)) z (omega (arith, h .1, z)))
-      ∙ ap (λ (n : ℕ). tables (set (numberedTies N us (set (set N 3 (getD N 3 0 + length us)) (6 + k) n)) loadsCell 0) L K E (writeRows putTie us (getD N 3 0) I) S O (putOperand (frameBase k (m - 1)) (set F (frameBase k (m - 1) + 3) (d + 1)) d (valueOf (v .kind) (v .bits)))) one)))
+      ∙ ap (λ (n : ℕ). tables (groupedOn B before us (set (numberedTies N us (set (set N 3 (getD N 3 0 + length us)) (6 + k) n)) loadsCell 0)) L K E (writeRows putTie us (getD N 3 0) I) S O (putOperand (frameBase k (m - 1)) (set F (frameBase k (m - 1) + 3) (d + 1)) d (valueOf (v .kind) (v .bits)))) one)))
 
 -- A new object's values, by the types of its fields
 
@@ -286,6 +325,30 @@ module _ (N L K E I S O F : List ℕ) (k m b : ℕ) (us : List Tie) (p : Plan) (
   posted-number : getD C 5 0 ≡ getD N 5 0
   posted-number = rw c (getD-set-other N 3 5 (getD N 3 0 + length us) 0 (λ e. omega arith))
 
+  -- no plan writes the number of ties
+  pub left-ties : (q : ℕ) (a : Answer) (D P G : List ℕ) → Left (quickBase C L K E) C O F k m b q p a D P G → getD D countTies 0 ≡ getD C countTies 0
+  left-ties q a D P G h = go p h
+    where
+      same : {x : List ℕ} → x ≡ C → getD x countTies 0 ≡ getD C countTies 0
+      same e = ap (λ (x : List ℕ). getD x countTies 0) e
+
+      frame : (n : ℕ) {x : List ℕ} → x ≡ set C (6 + k) n → getD x countTies 0 ≡ getD C countTies 0
+      frame n e = ap (λ (x : List ℕ). getD x countTies 0) e ∙ getD-set-other C (6 + k) countTies n 0 (λ z. omega arith)
+
+      go : (p : Plan) → Left (quickBase C L K E) C O F k m b q p a D P G → getD D countTies 0 ≡ getD C countTies 0
+      go (Refuse w) h = same (h .1)
+      go (Keep d) h = same (h .1)
+      go (Jump d x) h = same (h .1)
+      go (Above d v) h = same (h .1)
+      go (Local d i v) h = same (h .1)
+      go (Give v) h = frame m (h .1)
+      go (Finish v) h = frame 0 (h .1)
+      go (Field d o i v) h = same (h .1)
+      go (Enter d e) h = frame (m + 2) (h .1)
+      go (Make d s o) h =
+          ap (λ (x : List ℕ). getD x countTies 0) (h .1)
+          ∙ (getD-set-other (set C 5 (rowsWith o (getD C 5 0))) (8 + o) countTies (suc k) 0 (λ z. omega arith) ∙ getD-set-other C 5 countTies (rowsWith o (getD C 5 0)) 0 (λ z. omega arith))
+
   -- a plan that has room still has it
   pub still-ready : (m < 32) × Fit (quickBase C L K E) (tables C L K E [] [] O F) k m p
   still-ready = (r .low, go p (r .fits))
@@ -304,11 +367,11 @@ module _ (N L K E I S O F : List ℕ) (k m b : ℕ) (us : List Tie) (p : Plan) (
 
   -- what is left is what the machine makes of the plan
   pub left-planned : (J : List ℕ) → J ≡ writeRows putTie us (getD N 3 0) I → (q : ℕ) (a : Answer) (D P G : List ℕ) → Left (quickBase C L K E) C O F k m b q p a D P G
-      → done a (tables (closedBy a (numberedTies N us D)) L K E J S P G) ≡ planned (quickBase N L K E) (tables N L K E I S O F) k m q us p
+      → done a (tables (groupedOn (quickBase N L K E) (tables N L K E I S O F) us (closedBy a (numberedTies N us D))) L K E J S P G) ≡ planned (quickBase N L K E) (tables N L K E I S O F) k m q us p
   left-planned J j q a D P G h = go p r h
     where
       go : (p : Plan) → Ready (quickBase N L K E) (tables N L K E I S O F) k m b us p → Left (quickBase C L K E) C O F k m b q p a D P G
-          → done a (tables (closedBy a (numberedTies N us D)) L K E J S P G) ≡ planned (quickBase N L K E) (tables N L K E I S O F) k m q us p
+          → done a (tables (groupedOn (quickBase N L K E) (tables N L K E I S O F) us (closedBy a (numberedTies N us D))) L K E J S P G) ≡ planned (quickBase N L K E) (tables N L K E I S O F) k m q us p
       go (Refuse w) r h = rw (h .0, h .1, h .2, h .3) (out-refuse (quickBase N L K E) N L K E I S O F k m b q us (Refuse w) r C J c j w refl)
       go (Keep d) r h = rw (h .0, h .1, h .2) (out-keep (quickBase N L K E) N L K E I S O F k m b q us (Keep d) r C J c j d G refl (h .3))
       go (Jump d x) r h = rw (h .0, h .1, h .2) (out-jump (quickBase N L K E) N L K E I S O F k m b q us (Jump d x) r C J c j d x G refl (h .3))

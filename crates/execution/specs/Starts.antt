@@ -82,7 +82,7 @@ module _ (N L K E I S O F : List ℕ) (whole : broken (tables N L K E I S O F) �
       sym (starts ∙ (rw (e, x, y, z, swap) (ap (done Accepted) (
       quiet-writes base T k (record { world = worldIn base T; objects = _; frames = _; result = none }) (rowsWith o (getD N 5 0)) 1 (λ d. set d (8 + o) (suc k))
       (putObject O o (newObject base c)) (putFrame F (frameBase k 0) (entryFrame s j o (intValue v ∷ []))) (f .0) (unbroken T whole .counts .ties) refl
-      (fills (f .2) (f .1 ∙ unused-is base T)) (first-entered T k (entryFrame s j o (intValue v ∷ [])) (omega arith) (omega (arith, filled-length 8 emptyValue (objectValue o ∷ intValue v ∷ []))))))))
+      (fills (f .2) (f .1 ∙ unused-is base T)) (first-entered T k (entryFrame s j o (intValue v ∷ [])) (omega arith) (omega (arith, filled-length 8 emptyValue (objectValue o ∷ intValue v ∷ [])))) (unbroken T whole .groups)))))
     where
       fills : o < 256 → o ≡ unused (objectsOf base T)
           → FillsObjects (made k (newObject base c) (objectsOf base T)) N O (rowsWith o (getD N 5 0)) (λ d. set d (8 + o) (suc k)) (putObject O o (newObject base c))

@@ -250,7 +250,7 @@ module _ (N L K E I S O F : List ℕ) (whole : broken (tables N L K E I S O F) �
   T = tables N L K E I S O F
 
   ready : (x : Posting) (p : Plan) → getD N 3 0 + length (toPost x) ≤ 256 → Quiet (toPost x) p → Fit B T k m p → Ready B T k m b (toPost x) p
-  ready x p l h f = record { two = two; count = count; low = row-low T whole k m two count; row = row; ties = l; quiet = h; fits = f }
+  ready x p l h f = record { two = two; count = count; low = row-low T whole k m two count; row = row; ties = l; quiet = h; fits = f; groups = unbroken T whole .groups }
 
   -- the code that is read is the frame's, and the version its class's
   code-read : (c j : ℕ) → c ≡ getD F b 0 → j ≡ getD F (b + 1) 0 → codeIn (quickMethods (fileIn N L K c)) j ≡ codeOf B (frameIn F k m)

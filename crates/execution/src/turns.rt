@@ -9,14 +9,17 @@ use definition::Answer;
 use definition::Refusal;
 use definition::numbers::LOADS_CELL;
 use definition::numbers::WORD_BROKEN;
+use posting::Posting;
 ghost use mathlib.Core.Path.{_≡_};
 ghost use mathlib.Core.Bool.{false};
 ghost use Rattle.definition.specs.Tables.{tables};
 ghost use Rattle.definition.specs.Broken.{broken};
 ghost use Rattle.definition.specs.Calls.{done, stepTables};
 ghost use Rattle.tasks.specs.Turns.{turnOf};
+ghost use Rattle.posting.specs.Postings.{toPost};
 ghost use Rattle.execution.specs.Carried.{closedBy, wentOn};
 ghost use Rattle.execution.specs.Decisions.{RoomFor};
+ghost use Rattle.execution.specs.Turns.{regroupedBy};
 
 // The step ran or finished.
 fn went_on(a: Answer) -> bool
@@ -38,6 +41,16 @@ fn close(counts: &mut [u16], answer: Answer)
         return;
     }
     cells::put16(counts, LOADS_CELL, 0);
+}
+
+// Groups are made anew where ties were posted.
+fn regroup(counts: &mut [u16], ties: &[u16], posting: Posting)
+    ensures { λ _. ⌜ now (counts .exit) ≡ regroupedBy (toPost posting) (now (ties .entry)) (now (counts .entry)) ⌝ }
+{
+    if posting::tie_number(posting) == 0 {
+        return;
+    }
+    groups::write_groups(counts, ties);
 }
 
 // A step of a store that is not broken: decided on shared tables, then ties are posted and the plan carried out.
@@ -89,6 +102,7 @@ pub(crate) fn step_unbroken(
     );
     number_ties(counts, before, posting);
     close(counts, answer);
+    regroup(counts, ties, posting);
     answer
 }
 

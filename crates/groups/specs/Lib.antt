@@ -1,4 +1,4 @@
--- Groups of rows of ties: roots of rows, rows of one name, which row named a request, and the lowest row of each row's group.
+-- Groups of rows of ties: roots of rows, rows of one name, which row named a request, the lowest row of each group, and groups as numbers beside the ties.
 pub mod Joining
 pub mod Roots
 pub mod Claims
@@ -6,3 +6,4 @@ pub mod Lowest
 pub mod Laws
 pub mod Numbered
 pub mod Grouped
+pub mod Kept

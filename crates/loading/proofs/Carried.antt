@@ -2,12 +2,13 @@
 use mathlib.Core.Path.{_≡_, refl, sym, ap, subst, _∙_}
 use mathlib.Core.Bool.{Bool, true, false}
 use mathlib.Core.Option.{Option, none, some}
-use mathlib.Core.List.{List, [], _∷_}
+use mathlib.Core.List.{List, [], _∷_, _++_}
 use Prim.Native.Nat.{ℕ, _+_, _-_, _<_, _≤_}
 use native.Mathlib.Omega.{arith}
-use lib.ListN.{length, set, take}
-use lib.Seq.{sets}
-use lib.Dec.{leb, ltb}
+use lib.ListN.{length, getD, set, take, length-append, length-set}
+use lib.Seq.{sets, getD-set-same, getD-set-other}
+use lib.Dec.{leb, ltb, eqb}
+use borrow.Author.Tests.{eqb-true}
 use Rattle.definition.specs.declared.Refusal.the-variants.{Word}
 use Rattle.definition.specs.declared.Reply.{Reply}
 use Rattle.definition.specs.declared.Reply.the-variants.{Defined, Denied}
@@ -19,16 +20,23 @@ use Rattle.definition.specs.Constraints.{World, Tie, Subtype, agrees}
 use Rattle.definition.specs.Answers.{Result, refused, ok, number, _>>=_, need, take?}
 use Rattle.definition.specs.File.{File, readFile, classOf}
 use Rattle.definition.specs.Loading.{define, withClass}
-use Rattle.definition.specs.Tables.{Tables, tables, putThree, tieAt, putTie, subtypeAt, putSubtype, putNumber, Rows, worldOf, view, viewOver, viewBase}
+use Rattle.definition.specs.Tables.{Tables, tables, put, putThree, tieAt, putTie, subtypeAt, putSubtype, putNumber, Rows, worldOf, tiesOf, numbersOf, view, viewOver, viewBase}
 use Rattle.definition.specs.Broken.{broken}
-use Rattle.definition.specs.Calls.{Given, numbersFrom, done, addFile, given, defineRows, wrap, loadDefine}
+use Rattle.definition.specs.Calls.{Given, numbersFrom, Done, done, addFile, given, defineRows, wrap, loadDefine, callDefine, perform}
 use Rattle.definition.specs.Reasons.{reason, afterDefine, reasonAfter}
 use Rattle.laws.specs.Options.{bind-some}
 use Rattle.laws.specs.Refusals.{Refuses, on-bind}
 use Rattle.layout.specs.Places.{rows-length, writeRows-length}
 use Rattle.layout.specs.Cells.{tie-rows, subtype-rows, cells-sets}
-use Rattle.layout.specs.View.{countAt, kept-fill, classes-fill, remembering, class-writes}
+use Rattle.layout.specs.NumberedRows.{numbers-before}
+use Rattle.layout.specs.TracedRows.{putTrace-before}
+use Rattle.layout.specs.GroupedRows.{SameGroups}
+use Rattle.layout.specs.View.{countAt, kept-fill, classes-fill, remembering, regrouped-none, groups-unwritten, class-writes}
+use Rattle.layout.specs.View as layout
 use Rattle.layout.specs.Unbroken.{unbroken}
+use Rattle.unbroken.specs.Unbroken.{kept-unbroken}
+use Rattle.groups.specs.Numbered.{regrouped}
+use Rattle.groups.specs.Kept.{regrouped-kept}
 use Rattle.classfile.specs.Reading.{superName, quickFile}
 use Rattle.classfile.specs.Laws.{file-readable}
 use Rattle.resolution.specs.Quick.{quickBase}
@@ -42,7 +50,7 @@ use Rattle.loading.specs.declared.loads.Plan.{Plan}
 use Rattle.loading.specs.declared.loads.Plan.the-variants.{Refuse, Keep, Add}
 use Rattle.loading.specs.Stages.{judgedWorld, definedFrom, Placing, Decided}
 use Rattle.loading.specs.Writing.{numbersOn, numbersAfter, Grown}
-use Rattle.loading.specs.Plans.{fileOf, newWorld, Placed, newReply, countsOver, countsWith, written, Newly, Admitted}
+use Rattle.loading.specs.Plans.{fileOf, newWorld, Placed, newReply, countsOver, countsWith, groupedWith, written, Newly, Admitted}
 use Rattle.loading.proofs.Remembered.{counts-remembered}
 use Rattle.loading.proofs.Numbered.{numbers-given, numbers-in-turn}
 use Rattle.loading.proofs.Defined.{loader-known}
@@ -142,9 +150,13 @@ module _ (t : Tables) (l : ℕ) (bs : List ℕ) (sound : broken t ≡ false) whe
           writeRows (putNumber tieNumbersCell) (numbersFrom x m) (countAt t 3)
           (writeRows (putNumber subtypeNumbersCell) (numbersFrom (countAt t 3 + countAt t 4) n) (countAt t 4) c)
 
+      -- the counts before groups are made anew
+      abbrev ungrouped : List ℕ
+      ungrouped = remembering (viewBase t) t (numbered-with (countAt t 3 + countAt t 4 + length ss) (length us) (length ss) (sets (t .counts) 0 counts5))
+
       abbrev left : Tables
       left =
-          tables (remembering (viewBase t) t (numbered-with (countAt t 3 + countAt t 4 + length ss) (length us) (length ss) (sets (t .counts) 0 counts5)))
+          tables (layout.regrouped (viewBase t) t (countAt t 3 + countAt t 4 + length ss) us ungrouped)
           (putThree (t .classes) (countAt t 0) l (countAt t 1) (length bs)) (writeRows set bs (countAt t 1) (t .kept))
           (putThree (t .cache) (countAt t 2) (k .loader) (k .name) (countAt t 0)) (writeRows putTie us (countAt t 3) (t .ties))
           (writeRows putSubtype ss (countAt t 4) (t .subtypes)) (t .objects) (t .frames)
@@ -174,9 +186,82 @@ module _ (t : Tables) (l : ℕ) (bs : List ℕ) (sound : broken t ≡ false) whe
           ≡ remembering (viewBase t) t (numbered-with (countAt t 3 + countAt t 4 + length ss) (length us) (length ss) (sets (t .counts) 0 counts5))
       counts-are = counts-remembered n (countAt t 0 + 1) (countAt t 1 + length bs) (viewBase t) t grown (unbroken t sound .counts .trace) ∙ ap (remembering (viewBase t) t) over-are
 
-      cells-are : written (loadDefine l bs) n t u v ≡ left
+      -- what the definition leaves is not broken
+      rows-are : agrees (newWorld n bs base u v) ≡ true → defineRows l bs (view t) ≡ given (Defined (countAt t 0)) (addFile l bs (view t) (withClass (worldOf (view t)) k us ss))
+      unfolding _>>=_
+      rows-are q =
+          from (ok (withClass (quickWorld t) k us ss)) (made q)
+          ∙ ap (λ (w : World). given (Defined (countAt t 0)) (addFile l bs (view t) (withClass w k us ss))) (quick-world t sound)
+
+      left-puts : put (addFile l bs (view t) (withClass (worldOf (view t)) k us ss)) t ≡ left
+      unfolding view
+      left-puts = class-writes (viewBase t) t l bs k us ss (omega (arith, a .tied, a .few .0)) (omega (arith, a .noted, a .few .1))
+
+      left-unbroken : agrees (newWorld n bs base u v) ≡ true → broken left ≡ false
+      unfolding perform
+      left-unbroken q =
+          subst (λ (d : Done Reply). broken (d .tables) ≡ false) (sym (wrap-given Denied (defineRows l bs) t sound (Defined (countAt t 0)) (addFile l bs (view t) (withClass (worldOf (view t)) k us ss)) left (rows-are q) left-puts))
+          (kept-unbroken (callDefine l bs) t sound)
+
+      -- groups made anew are those that it puts; where no tie was posted they stay
+
+      abbrev five1 : List ℕ
+      five1 = set (t .counts) 0 (countAt t 0 + 1)
+
+      abbrev five2 : List ℕ
+      five2 = set five1 1 (countAt t 1 + length bs)
+
+      abbrev five3 : List ℕ
+      five3 = set five2 2 (countAt t 2 + 1)
+
+      abbrev five4 : List ℕ
+      five4 = set five3 3 (countAt t 3 + length us)
+
+      five-groups : SameGroups (t .counts) (sets (t .counts) 0 counts5)
+      five-groups = λ j h.
+          getD-set-other five4 4 j (countAt t 4 + length ss) 0 (λ e. omega arith)
+          ∙ (getD-set-other five3 3 j (countAt t 3 + length us) 0 (λ e. omega arith)
+          ∙ (getD-set-other five2 2 j (countAt t 2 + 1) 0 (λ e. omega arith)
+          ∙ (getD-set-other five1 1 j (countAt t 1 + length bs) 0 (λ e. omega arith) ∙ getD-set-other (t .counts) 0 j (countAt t 0 + 1) 0 (λ e. omega arith))))
+
+      three-long : length five3 ≡ length (t .counts)
+      three-long = simp length-set
+
+      tied-now : getD ungrouped 3 0 ≡ countAt t 3 + length us
+      tied-now =
+          putTrace-before _ (numbered-with (countAt t 3 + countAt t 4 + length ss) (length us) (length ss) (sets (t .counts) 0 counts5)) 3 (omega arith)
+          ∙ (numbers-before tieNumbersCell (numbersFrom (countAt t 3 + countAt t 4 + length ss) (length us)) (countAt t 3)
+          (writeRows (putNumber subtypeNumbersCell) (numbersFrom (countAt t 3 + countAt t 4) (length ss)) (countAt t 4) (sets (t .counts) 0 counts5)) 3 (omega arith)
+          ∙ (numbers-before subtypeNumbersCell (numbersFrom (countAt t 3 + countAt t 4) (length ss)) (countAt t 4) (sets (t .counts) 0 counts5) 3 (omega arith)
+          ∙ (getD-set-other five4 4 3 (countAt t 4 + length ss) 0 (λ e. omega arith) ∙ getD-set-same five3 3 (countAt t 3 + length us) 0 (omega (arith, unbroken t sound .lengths .counts, three-long)))))
+
+      none-of : (xs : List Tie) → length xs ≡ 0 → xs ≡ []
+      none-of [] e = refl
+      none-of (x ∷ xs) e = absurd (omega arith)
+
+      groups-are : agrees (newWorld n bs base u v) ≡ true
+          → groupedWith n (t .counts) (writeRows putTie us (countAt t 3) (t .ties)) ungrouped ≡ layout.regrouped (viewBase t) t (countAt t 3 + countAt t 4 + length ss) us ungrouped
+      unfolding groupedWith
+      groups-are q = go (eqb (n .tied) (countAt t 3)) refl
+        where
+          anew : List ℕ
+          anew = regrouped ungrouped (writeRows putTie us (countAt t 3) (t .ties)) (getD ungrouped 3 0)
+
+          go : (b : Bool) → eqb (n .tied) (countAt t 3) ≡ b → elim b as (λ _. List ℕ) [ true ↦ ungrouped | false ↦ anew ] ≡ layout.regrouped (viewBase t) t (countAt t 3 + countAt t 4 + length ss) us ungrouped
+          go true e =
+              let none : us ≡ [] = none-of us (omega (arith, eqb-true (n .tied) (countAt t 3) e, a .tied)) in
+              subst (λ (xs : List Tie). ungrouped ≡ layout.regrouped (viewBase t) t (countAt t 3 + countAt t 4 + length ss) xs ungrouped) (sym none)
+              (sym (regrouped-none (viewBase t) t (countAt t 3 + countAt t 4 + length ss) ungrouped (unbroken t sound .groups)
+              (groups-unwritten (viewBase t) t (countAt t 3 + countAt t 4 + length ss) (length us) (length ss) (sets (t .counts) 0 counts5) (omega (arith, a .tied, a .few .0)) (omega (arith, a .noted, a .few .1)) five-groups)))
+          go false e =
+              regrouped-kept (tiesOf t ++ us) (numbersOf t .ties ++ numbersFrom (countAt t 3 + countAt t 4 + length ss) (length us)) ungrouped
+              (putThree (t .classes) (countAt t 0) l (countAt t 1) (length bs)) (writeRows set bs (countAt t 1) (t .kept)) (putThree (t .cache) (countAt t 2) (k .loader) (k .name) (countAt t 0))
+              (writeRows putTie us (countAt t 3) (t .ties)) (writeRows putSubtype ss (countAt t 4) (t .subtypes)) (t .objects) (t .frames) (left-unbroken q)
+              (length-append (tiesOf t) us ∙ (ap (λ (x : ℕ). x + length us) (rows-length (tieAt (t .ties)) (countAt t 3) 0) ∙ sym tied-now))
+
+      cells-are : agrees (newWorld n bs base u v) ≡ true → written (loadDefine l bs) n t u v ≡ left
       unfolding written quickFile
-      cells-are = λ z. tables (counts-are z)
+      cells-are q = λ z. tables (((λ y. groupedWith n (t .counts) (ties-are y) (counts-are y)) ∙ groups-are q) z)
           (putThree (t .classes) (countAt t 0) (a .loader z) (countAt t 1) (length bs)) (writeRows set bs (countAt t 1) (t .kept))
           (putThree (t .cache) (countAt t 2) (a .loader z) (a .name z) (a .class z)) (ties-are z) (subtypes-are z) (t .objects) (t .frames)
 
@@ -184,16 +269,10 @@ module _ (t : Tables) (l : ℕ) (bs : List ℕ) (sound : broken t ≡ false) whe
       reply-is = sym (reply-class n (λ z. omega (arith, a .above))) ∙ ap (λ (x : ℕ). Defined x) (a .class)
 
       puts : agrees (newWorld n bs base u v) ≡ true → done (newReply n) (written (loadDefine l bs) n t u v) ≡ wrap Denied offer t
-      unfolding view _>>=_
       puts q =
-          (λ z. done (reply-is z) (cells-are z))
+          (λ z. done (reply-is z) (cells-are q z))
           ∙ wrap-given Denied offer t sound (Defined (countAt t 0)) (addFile l bs (view t) (withClass (worldOf (view t)) k us ss)) left
-          (whole-by (loadDefine l bs) t size u v sound long _ (from (ok (withClass (quickWorld t) k us ss)) (made q) ∙ added))
-          (class-writes (viewBase t) t l bs k us ss (omega (arith, a .tied, a .few .0)) (omega (arith, a .noted, a .few .1)))
-        where
-          added : (ok (withClass (quickWorld t) k us ss) >>= λ w. given (Defined (countAt t 0)) (addFile l bs (view t) w))
-              ≡ given (Defined (countAt t 0)) (addFile l bs (view t) (withClass (worldOf (view t)) k us ss))
-          added = ap (λ (w : World). given (Defined (countAt t 0)) (addFile l bs (view t) (withClass w k us ss))) (quick-world t sound)
+          (whole-by (loadDefine l bs) t size u v sound long _ (rows-are q)) left-puts
 
       -- the numbers of its rows, and what a try lists
 

@@ -10,10 +10,12 @@ use Rattle.definition.specs.declared.Reply.the-variants.{Accepted, Denied}
 use Rattle.definition.specs.Numbers.{loadsCell}
 use Rattle.definition.specs.Lists.{writeRows, writeStack}
 use Rattle.definition.specs.Answers.{_>>=_, need}
-use Rattle.definition.specs.Tables.{Tables, tables, shaped, putThree, putClassRow, putEntry, countsOf, view, viewBase, put, withFrames, putNumbers, putTrace}
+use Rattle.definition.specs.Tables.{Tables, tables, shaped, putThree, putClassRow, putEntry, countsOf, view, viewBase, put, withFrames, putNumbers, putTrace, putGroups}
+use Rattle.definition.specs.Groups.{groupsOf}
 use Rattle.definition.specs.Broken.{broken}
 use Rattle.definition.specs.Calls.{done, closed, boot, dropRows, callBoot, callDrop, perform}
 use Rattle.layout.specs.View.{drop-writes}
+use Rattle.layout.specs.Unbroken.{unbroken}
 use Rattle.entries.proofs.Calls.{wrap-broken, wrap-refused, wrap-given}
 
 -- boot
@@ -26,7 +28,7 @@ pub boot-done : (t : Tables) → shaped t ≡ true
     → done Accepted (tables (set (writeRows set (1 ∷ 0 ∷ 1 ∷ 0 ∷ 0 ∷ 0 ∷ 0 ∷ 0 ∷ []) 0 (t .counts)) loadsCell 0) (putThree (t .classes) 0 0 0 0) (t .kept)
     (putThree (t .cache) 0 0 2 0) (t .ties) (t .subtypes) (t .objects) (t .frames))
     ≡ perform callBoot t
-unfolding perform boot put putNumbers putTrace countsOf writeRows writeStack putClassRow putEntry
+unfolding perform boot put putNumbers putTrace putGroups groupsOf countsOf writeRows writeStack putClassRow putEntry
 boot-done t h = rw (h, boot) refl
 
 -- drop
@@ -48,4 +50,4 @@ module _ (t : Tables) (k : ℕ) where
     drop-done h =
         wrap-given Denied (dropRows k) t sound Accepted (closed (withFrames k [] (view t)))
         (tables (set (set (t .counts) (6 + k) 0) loadsCell 0) (t .classes) (t .kept) (t .cache) (t .ties) (t .subtypes) (t .objects) (t .frames))
-        (rw (lt-ltb k 2 h, need)) (drop-writes (viewBase t) t k h)
+        (rw (lt-ltb k 2 h, need)) (drop-writes (viewBase t) t k h (unbroken t sound .groups))

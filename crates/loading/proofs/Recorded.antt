@@ -205,7 +205,7 @@ module _ (t : Tables) (l n c : ℕ) (sound : broken t ≡ false) where
           (tables (remembering (viewBase t) t (set (t .counts) 2 (countAt t 2 + 1))) (t .classes) (t .kept) (putThree (t .cache) (countAt t 2) l n c) (t .ties) (t .subtypes) (t .objects) (t .frames))
           (whole-by (loadRecord l n c) t size (t .ties) (t .subtypes) sound long _ (from (ok (withEntry (quickWorld t) (at l n) c)) (made q)
           ∙ ap (λ (w : World). given Accepted (addEntry (view t) (withEntry w (at l n) c))) (quick-world t sound)))
-          (entry-writes (viewBase t) t l n c)
+          (entry-writes (viewBase t) t l n c (unbroken t sound .groups))
 
       -- the numbers are the stored ones
       numbers-are : numbersAfter (t .counts) (new .tied) (new .noted) ≡ numbersIn (t .counts)
@@ -241,7 +241,7 @@ module _ (t : Tables) (l n c : ℕ) (sound : broken t ≡ false) where
     entry-admitted small Keep h =
         wrap-given Denied offer t sound Accepted (view t) t
         (whole-by (loadRecord l n c) t size (t .ties) (t .subtypes) sound long _ (from (ok (quickWorld t)) h ∙ (ap (λ (w : World). given Accepted (addEntry (view t) w)) (quick-world t sound) ∙ ap (given Accepted) (entry-there (view t)))))
-        (put-view t)
+        (put-view t (unbroken t sound .groups))
     entry-admitted small (Add new) h = entry-newly small new (h .0) (h .1)
 
 -- the name that a class's row gives

@@ -5,7 +5,7 @@ use mathlib.Core.Option.{some}
 use mathlib.Core.List.{List, [], _∷_, _++_}
 use Prim.Native.Nat.{ℕ, zero, suc, _+_, _≤_, _<_}
 use lib.ListN.{length, getD, set, take}
-use lib.Dec.{leb, ltb}
+use lib.Dec.{leb, ltb, eqb}
 use Rattle.definition.specs.Lists.{rows, writeRows}
 use Rattle.definition.specs.Requests.{at}
 use Rattle.definition.specs.Classes.{Base, find}
@@ -19,6 +19,7 @@ use Rattle.definition.specs.declared.Reply.the-variants.{Accepted, Defined, Den
 use Rattle.definition.specs.Answers.{refused, number}
 use Rattle.definition.specs.Calls.{done, wrap, Load, loadDefine, loadRecord, loadRows}
 use Rattle.definition.specs.Reasons.{reason, tries, afterLoad, reasonAfter, tryLoad}
+use Rattle.groups.specs.Numbered.{regrouped}
 use Rattle.classfile.specs.Reading.{className, superName, quickFile}
 use Rattle.resolution.specs.Quick.{quickBase}
 use Rattle.entries.specs.World.{world, baseWith, Searchable}
@@ -118,11 +119,15 @@ countsOver n c d counts m = numbersOn counts (n .tied) (n .noted) (writeRows set
 unfoldable pub countsWith : Newcomer → ℕ → ℕ → List ℕ → List ℕ
 countsWith n c d counts = countsOver n c d counts (rememberedIn counts)
 
--- the entry; of a define also the next class, its file behind the kept ones, and the tables of constraints u and v
+-- counts c with groups made anew of a table of ties, if any was posted behind those of the counts before
+unfoldable pub groupedWith : Newcomer → List ℕ → List ℕ → List ℕ → List ℕ
+groupedWith n counts ties c = elim (eqb (n .tied) (getD counts 3 0)) as (λ _. List ℕ) [ true ↦ c | false ↦ regrouped c ties (getD c 3 0) ]
+
+-- the entry; of a define also the next class, its file behind the kept ones, the tables of constraints u and v, and groups
 unfoldable pub written : Load → Newcomer → Tables → List ℕ → List ℕ → Tables
 written (loadDefine l bs) n t u v =
     let c = t .counts in
-    tables (countsWith n (getD c 0 0 + 1) (getD c 1 0 + length bs) c) (putThree (t .classes) (getD c 0 0) (n .loader) (getD c 1 0) (length bs))
+    tables (groupedWith n c (writeRows set (take 768 u) 0 (t .ties)) (countsWith n (getD c 0 0 + 1) (getD c 1 0 + length bs) c)) (putThree (t .classes) (getD c 0 0) (n .loader) (getD c 1 0) (length bs))
     (writeRows set bs (getD c 1 0) (t .kept)) (putThree (t .cache) (getD c 2 0) (n .loader) (n .name) (n .class)) (writeRows set (take 768 u) 0 (t .ties))
     (writeRows set v 0 (t .subtypes)) (t .objects) (t .frames)
 written (loadRecord l m k) n t u v =

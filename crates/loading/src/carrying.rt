@@ -1,4 +1,4 @@
-// The one place where a load writes: a new class, its constraints, the entry, the counts, and the numbers of posted rows.
+// The one place where a load writes: a new class, its constraints, the entry, the counts, the numbers of posted rows, and groups.
 use crate::loads::Newcomer;
 use definition::Reply;
 use definition::numbers::COUNT_CACHE;
@@ -15,7 +15,7 @@ ghost use Rattle.definition.specs.Numbers.{classLimit, cacheLimit, fileLimit, c
 ghost use Rattle.definition.specs.Lists.{writeRows};
 ghost use Rattle.definition.specs.Tables.{putThree};
 ghost use Rattle.loading.specs.Writing.{numbersOn, Grown};
-ghost use Rattle.loading.specs.Plans.{newReply, countsWith};
+ghost use Rattle.loading.specs.Plans.{newReply, countsWith, groupedWith};
 
 // Where the numbers of each table begin, in 16 bits.
 const TIE_NUMBERS: u16 = TIE_NUMBERS_CELL as u16;
@@ -52,6 +52,27 @@ pub(crate) fn enter(counts: &mut [u16], cache: &mut [u16], n: Newcomer, classes:
     entries::put_three(cache, row, cells::from8(n.loader), n.name, n.class);
     entries::remember(counts);
     write_counts(counts, &[classes, kept, row + 1, n.tied, n.noted]);
+}
+
+// The same of a new class, whose ties stand in their table already: where it posted some, groups are made anew.
+pub(crate) fn enter_class(
+    counts: &mut [u16],
+    cache: &mut [u16],
+    ties: &[u16],
+    n: Newcomer,
+    classes: u16,
+    kept: u16,
+)
+    requires { ⌜ (getD (now counts) countCache 0 ≤ cacheLimit) × Grown (now counts) (n .tied) (n .noted) ⌝ }
+    ensures counted { λ _. ⌜ now (counts .exit) ≡ groupedWith n (now (counts .entry)) (now (ties .entry)) (countsWith n classes kept (now (counts .entry))) ⌝ }
+    ensures written { λ _. ⌜ now (cache .exit) ≡ putThree (now (cache .entry)) (getD (now (counts .entry)) countCache 0) (n .loader) (n .name) (n .class) ⌝ }
+{
+    let tied = cells::at16(counts, COUNT_TIES);
+    enter(counts, cache, n, classes, kept);
+    if n.tied == tied {
+        return;
+    }
+    groups::write_groups(counts, ties);
 }
 
 // The next class, of that loader: its row, its file behind the kept ones, and both tables of constraints, copied.

@@ -10,6 +10,7 @@ mod trying; // trying.rt: agreement on copies, and why there is none
 
 use admitting::admit;
 use carrying::enter;
+use carrying::enter_class;
 use carrying::reply_of;
 use carrying::write_class;
 use definition::Refusal;
@@ -167,7 +168,7 @@ pub fn define(
             );
             let number = cells::at16(counts, COUNT_CLASSES) + 1;
             let end = cells::at16(counts, COUNT_KEPT) + file.len() as u16;
-            enter(counts, cache, n, number, end);
+            enter_class(counts, cache, ties, n, number, end);
             reply_of(n)
         }
     }

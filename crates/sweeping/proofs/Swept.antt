@@ -138,7 +138,7 @@ module _ (t : Tables) (sound : broken t ≡ false) (sizes : List ℕ) (sized : S
   swept : perform callSweep t
       ≡ done (Swept (freedFrom R 0 os)) (tables (set (writeRows putOwner (sweptFrom R 0 os) 0 (t .counts)) loadsCell 0) (t .classes) (t .kept) (t .cache) (t .ties) (t .subtypes) (t .objects) (t .frames))
   unfolding perform sweepRows carried view viewOver
-  swept = wrap-carried Denied sweepRows t sound ∙ ap (done (Swept (freedFrom R 0 os))) (sweep-writes b t R (unbroken t sound .counts .objects))
+  swept = wrap-carried Denied sweepRows t sound ∙ ap (done (Swept (freedFrom R 0 os))) (sweep-writes b t R (unbroken t sound .counts .objects) (unbroken t sound .groups))
 
   pub sweep-done : (marks c : List ℕ) (n : ℕ) → marks ≡ marked sizes (t .counts) (t .objects) (t .frames) (replicate 256 0) .marks
       → freed c n ≡ freeRows marks (getD (t .counts) 5 0) 0 (t .counts) 0

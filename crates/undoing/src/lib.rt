@@ -1,5 +1,5 @@
-// Taking back the latest load that changed the store: the five counts before it are the store's again, and its row of the trace goes. No other cell is written, so
-// what it had added lies behind the counts.
+// Taking back the latest load that changed the store: the five counts before it are the store's again, and its row of the trace goes. What it had added lies behind the
+// counts. The groups of the ties left are made anew, since the load may have joined older ones; no other cell is written.
 use definition::Refusal;
 use definition::Reply;
 use definition::numbers::COUNT_CACHE;
@@ -65,5 +65,6 @@ pub fn take_back(
         return Reply::Denied(Refusal::Word(WORD_LATE));
     }
     take_level(counts, loads - 1);
+    groups::write_groups(counts, ties);
     Reply::Accepted
 }

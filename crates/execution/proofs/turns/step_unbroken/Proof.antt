@@ -48,15 +48,17 @@ number-ties-requires c κs =
 returns-2 : tie.Need-returns-2
 returns-2 c =
     let at6 = c .before .before .before .before .before .before in
-    let at14 = at6 .before .before .before .before .before .before .before .before in
-    let at22 = at14 .before .before .before .before .before .before .before .before in
-    let at25 = at22 .before .before .before in
-    let at30 = at25 .before .before .before .before .before in
-    let at33 = at30 .before .before .before in
-    let at34 = at33 .before in
-    let at36 = at34 .before .before in
-    let at46 = at36 .before .before .before .before .before .before .before .before .before .before in
-    top-carried _ _ _ _ _ _ _ _ (at46 .pre .0) _ _ (at36 .turn .ensures) (at34 .frame-count .ensures) (at33 .if1 .left) _ _ (at30 .top-frame .ensures .0) (at30 .top-frame .ensures .1) _ _ _ _ (at25 .choose .ensures) _ _ (at22 .post-ties .ensures .0) (at22 .post-ties .ensures .1 .0) _ _ _ _ (at14 .carry-out .ensures) _ _ (at22 .post-ties .ensures .1 .1 .0) (at22 .post-ties .ensures .1 .1 .1) _ (c .before .before .close .ensures ∙ ap (closedBy (at14 .carry-out .result)) (at6 .number-ties .ensures))
+    let at10 = at6 .before .before .before .before in
+    let at18 = at10 .before .before .before .before .before .before .before .before in
+    let at26 = at18 .before .before .before .before .before .before .before .before in
+    let at29 = at26 .before .before .before in
+    let at34 = at29 .before .before .before .before .before in
+    let at37 = at34 .before .before .before in
+    let at38 = at37 .before in
+    let at40 = at38 .before .before in
+    let at50 = at40 .before .before .before .before .before .before .before .before .before .before in
+    top-carried _ _ _ _ _ _ _ _ (at50 .pre .0) _ _ (at40 .turn .ensures) (at38 .frame-count .ensures) (at37 .if1 .left) _ _ (at34 .top-frame .ensures .0) (at34 .top-frame .ensures .1) _ _ _ _ (at29 .choose .ensures) _ _ (at26 .post-ties .ensures .0) (at26 .post-ties .ensures .1 .0) _ _ _ _ (at18 .carry-out .ensures) _ _ (at26 .post-ties .ensures .1 .1 .0) (at26 .post-ties .ensures .1 .1 .1) _
+    _ (at6 .close .ensures ∙ ap (closedBy (at18 .carry-out .result)) (at10 .number-ties .ensures)) (c .before .before .regroup .ensures)
 
 pub step-unbroken-spec : {M : Type 1} → statement M
 step-unbroken-spec =
@@ -72,6 +74,7 @@ step-unbroken-spec =
     post-ties-requires
     carry-out-requires
     number-ties-requires
+    (λ c κs. search needs)
     (λ c κs. search needs)
     (λ c. search needs)
     (λ c. search needs)
