@@ -15,12 +15,12 @@ use Rattle.definition.specs.declared.Reply.the-variants.{Accepted, Denied}
 use Rattle.definition.specs.declared.Refusal.the-variants.{Word}
 use Rattle.definition.specs.Numbers.{wordBroken, wordShare, wordLate, objectLimit, ownersCell, tieLimit, subtypeLimit, countTies, countSubtypes, countObjects, loadsCell}
 use Rattle.definition.specs.Lists.{any, stack}
-use Rattle.definition.specs.Answers.{numberOf, endsIn}
+use Rattle.definition.specs.Answers.{numberOf, endsIn, details}
 use Rattle.definition.specs.Groups.{groupsOf}
 use Rattle.definition.specs.Machine.{Object, owned, Objects, madeBy}
 use Rattle.definition.specs.Tables.{Tables, shaped, tieAt, subtypeAt, keptOf, classRowsOf, RowNumbers, rowNumbers, ownerAt, viewBase, objectsOf, Rows, rowsOf, view, viewOver}
 use Rattle.definition.specs.Broken.{broken, groupsIn}
-use Rattle.definition.specs.Calls.{numbersFrom, rowDefine, rowRecord, rowStart, rowDrop, rowSweep, rowTry, rowTakeBack, Call, callBoot, callRows, callStep, callRun, callTakeBack, Done, done, perform}
+use Rattle.definition.specs.Calls.{numbersFrom, rowDefine, rowRecord, rowStart, rowDrop, rowSweep, rowTry, rowTakeBack, Call, callBoot, callRows, callStep, callRun, callTakeBack, turn, turnOf, Done, done, perform}
 use Rattle.definition.specs.Changeover.{withCounts, tiesFirst, groupsFirst, carry, changeover, firstRowCallOf, firstCallOf, bringsLater, involved, AnswersAsBefore}
 use Rattle.definition.specs.First.Tables.{FirstTables, FirstRows, firstViewOver, firstView}
 use Rattle.definition.specs.First.Broken.{firstBroken, firstWithin, firstWhole}
@@ -320,3 +320,27 @@ pub stores-as-before : (u : FirstTables) (t : Tables) → changeover u t .answer
 stores-as-before u t h cs =
     let f = changeover-filled u t h in
     rw (f .left) (stores-from cs u (carry u) (carrying u) (unbroken-keeps-none u (f .sound)) (carried-whole u (f .sound) .0))
+
+-- So does the line that a host or a script gets, the number and the details: where a step wants a class they name the task whose turn it is
+
+abbrev pub LinesAsBefore : List Call → FirstTables → Tables → Type 0
+LinesAsBefore [] u t = Unit {0}
+LinesAsBefore (c ∷ cs) u t = (b : FirstCall) → firstCallOf c ≡ some b → involved b (firstPerform b u .answer) (perform c t .answer) ≡ false
+    → (details (turn (view t)) (perform c t .answer) ≡ details (turnOf (firstView u .quote)) (firstPerform b u .answer))
+    × LinesAsBefore cs (firstPerform b u .tables) (perform c t .tables)
+
+turn-same : (u : FirstTables) (t : Tables) → Carries u t → EarlyTables u → broken t ≡ false → turn (view t) ≡ turnOf (firstView u .quote)
+unfolding turn
+turn-same u t h x k = ap (λ (r : FirstRows). turnOf (r .quote)) (sym (same-store u t (h .fronts) x (same-broken u t h x ∙ k) .rows .rest))
+
+lines-from : (cs : List Call) (u : FirstTables) (t : Tables) → Carries u t → EarlyTables u → broken t ≡ false → LinesAsBefore cs u t
+lines-from [] u t h x k = tt
+lines-from (c ∷ cs) u t h x k = λ b e. subst (λ (z : Call). involved b (firstPerform b u .answer) (perform z t .answer) ≡ false
+    → (details (turn (view t)) (perform z t .answer) ≡ details (turnOf (firstView u .quote)) (firstPerform b u .answer)) × LinesAsBefore cs (firstPerform b u .tables) (perform z t .tables)) (today-of c b e)
+    (λ n. let a = same-plain u t h x b (not-involved b _ _ n) in
+    (λ i. details (turn-same u t h x k i) (sym (a .answer) i), lines-from cs (firstPerform b u .tables) (perform (today b) t .tables) (a .tables) (keeps-early b u x) (kept-unbroken (today b) t k)))
+
+pub lines-as-before : (u : FirstTables) (t : Tables) → changeover u t .answer ≡ Accepted → (cs : List Call) → LinesAsBefore cs u (changeover u t .tables)
+lines-as-before u t h cs =
+    let f = changeover-filled u t h in
+    rw (f .left) (lines-from cs u (carry u) (carrying u) (unbroken-keeps-none u (f .sound)) (carried-whole u (f .sound) .0))

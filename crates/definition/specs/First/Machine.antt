@@ -1,7 +1,7 @@
 -- The first document's machine on rows: objects, and one instruction. Where a later paper changed nothing its definitions are today's; where one changed a
--- definition, the old text stands in this crate with what stands on it. Since paper 1 a row of objects may be free, and each object has an owner: here an object
+-- definition, the old text stands in this folder with what stands on it. Since paper 1 a row of objects may be free, and each object has an owner: here an object
 -- is the next row of a list, for good. Since paper 2 there are branches, since paper 4 imul and idiv: here none is read. Since paper 7 a call has a list of arguments: here it has one, which is popped, then the
--- receiver, and the frame that is entered has it in local 1; a call with another list, which no code of version 1 has (`decode-one`), is refused.
+-- receiver, and the frame that is entered has it in local 1; a call with another list, which no code of version 1 has (`decode-one`, crate first), is refused.
 use mathlib.Core.Bool.{true, _&&_}
 use mathlib.Core.Option.{Option, none, some}
 use mathlib.Core.List.{List, [], _∷_, _++_}

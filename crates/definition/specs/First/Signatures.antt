@@ -1,5 +1,5 @@
 -- The first document's signatures: a name, one argument type and a result. Which methods are alike, the method that is selected, the ties of a signature. Since paper 7 a signature has a list of
--- arguments; here what is said of it is said by the case of a list of one. No method that the first document reads has another list (`read-one`), and no call that it decodes (`decode-one`).
+-- arguments; here what is said of it is said by the case of a list of one. No method that the first document reads has another list (`read-one`, crate first), and no call that it decodes (`decode-one`).
 use mathlib.Core.Bool.{Bool, false, _&&_}
 use mathlib.Core.Option.{Option, none, some}
 use mathlib.Core.List.{List, [], _∷_, _++_}
