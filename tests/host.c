@@ -1,4 +1,4 @@
-/* The eleven calls from C: tables of wrong lengths, damaged stores, every word of refusal on pages that may only be read, numbers at their
+/* The calls on one store from C: tables of wrong lengths, damaged stores, every word of refusal on pages that may only be read, numbers at their
    limits, answer tables of every length, a run beside its steps, objects freed and their numbers used again, the report's share, files of
    version 2, products and quotients, fields of one name in a class and above it, files of version 3 with 0 to 4 arguments, loads tried on
    short and long lists, and the chains of those that clash, loads taken back, what closes them, and traces that nobody left; and the desk

@@ -13,6 +13,8 @@ pub mod Safe
 pub mod Swept
 pub mod Misplaced
 pub mod Words
+pub mod Sane
+pub mod Carried
 pub mod Safety
 pub mod Fields
 pub mod Passed

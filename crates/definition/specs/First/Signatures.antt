@@ -1,18 +1,18 @@
 -- The first document's signatures: a name, one argument type and a result. Which methods are alike, the method that is selected, the ties of a signature. Since paper 7 a signature has a list of
--- arguments; here what is said of it is said by the case of a list of one. No method that the first document reads has another list (`read-one`), and no call that it decodes (`decode-one`).
+-- arguments; here what is said of it is said by the case of a list of one. No method that the first document reads has another list (`read-one`, crate first), and no call that it decodes (`decode-one`).
 use mathlib.Core.Bool.{Bool, false, _&&_}
 use mathlib.Core.Option.{Option, none, some}
 use mathlib.Core.List.{List, [], _∷_, _++_}
 use Prim.Native.Nat.{ℕ}
 use lib.Dec.{eqb, leb}
 use Rattle.definition.specs.declared.Arguments.the-variants.{NoArguments, OneArgument, TwoArguments, ThreeArguments, FourArguments}
 use Rattle.definition.specs.declared.Signature.{Signature}
 use Rattle.definition.specs.Numbers.{nameInt}
 use Rattle.definition.specs.Lists.{any, indexOf}
 use Rattle.definition.specs.Maybe.{_>>=_}
 use Rattle.definition.specs.Superclasses.{nearest}
 use Rattle.definition.specs.Classes.{signature, Base, Method, Selected, superOf, loaderOf, methodsOf}
 use Rattle.definition.specs.Constraints.{Tie, newTies}
 
 -- what f says of the argument type; d for a list that is not of one, which version 1 can't have
 unfoldable pub firstArgument : {A : Type 0} → Signature → A → (ℕ → A) → A

@@ -5,15 +5,15 @@ use mathlib.Core.List.{List, [], _∷_, map}
 use Prim.Native.Nat.{ℕ, _+_}
 use lib.ListN.{length, getD, set, take, drop}
 use lib.Dec.{eqb, leb}
 use Rattle.definition.specs.Numbers.{taskLimit, countObjects, countFrames, classesLength, keptLength, cacheLength, tiesLength, subtypesLength, objectsLength, framesLength}
 use Rattle.definition.specs.Lists.{every, rows, writeRows, writeStack}
 use Rattle.definition.specs.Classes.{Base, Class, Entry}
 use Rattle.definition.specs.Constraints.{Tie, Subtype, World}
 use Rattle.definition.specs.Machine.{Object, Frame}
 use Rattle.definition.specs.Tables.{Tables, ClassRow, ofTask, putClassRow, putEntry, putTie, putSubtype, objectAt, putObject, putFrameIn, classRowsOf, keptOf, cacheOf, tiesOf, subtypesOf, framesOf}
 use Rattle.definition.specs.File.{File, classOf, objectClass}
 use Rattle.definition.specs.Maybe.{_>>=_, need}
-use Rattle.first.specs.Files.{firstReadFile}
+use Rattle.definition.specs.First.Files.{firstReadFile}
 
 abbrev pub FirstTables : Type 0
 FirstTables = Tables

@@ -1,29 +1,29 @@
 -- The first document's machine on rows: objects, and one instruction. Where a later paper changed nothing its definitions are today's; where one changed a
--- definition, the old text stands in this crate with what stands on it. Since paper 1 a row of objects may be free, and each object has an owner: here an object
+-- definition, the old text stands in this folder with what stands on it. Since paper 1 a row of objects may be free, and each object has an owner: here an object
 -- is the next row of a list, for good. Since paper 2 there are branches, since paper 4 imul and idiv: here none is read. Since paper 7 a call has a list of arguments: here it has one, which is popped, then the
--- receiver, and the frame that is entered has it in local 1; a call with another list, which no code of version 1 has (`decode-one`), is refused.
+-- receiver, and the frame that is entered has it in local 1; a call with another list, which no code of version 1 has (`decode-one`, crate first), is refused.
 use mathlib.Core.Bool.{true, _&&_}
 use mathlib.Core.Option.{Option, none, some}
 use mathlib.Core.List.{List, [], _∷_, _++_}
 use Prim.Native.Nat.{ℕ, suc, _+_, _-_, _%_}
 use lib.ListN.{length, getElem?, set}
 use lib.Dec.{leb, ltb}
 use Rattle.definition.specs.declared.Refusal.the-variants.{Word}
 use Rattle.definition.specs.declared.Operator.{Operator}
 use Rattle.definition.specs.declared.Operator.the-variants.{Add, Subtract, Multiply, Divide}
 use Rattle.definition.specs.declared.Instruction.{Instruction}
 use Rattle.definition.specs.declared.Instruction.the-variants.{AconstNull, Sipush, Load, Store, Pop, Dup, Arithmetic, Getfield, Putfield, Invokevirtual, New, Return, Branch}
 use Rattle.definition.specs.Numbers.{wordUnknown, wordAbsent, wordFull, wordNull, wordBusy, wordStuck, nameObject, loaderLimit, objectLimit, frameLimit, operandLimit, intRange}
 use Rattle.definition.specs.Lists.{indexOf}
 use Rattle.definition.specs.Requests.{at}
 use Rattle.definition.specs.Superclasses.{nearest, below}
 use Rattle.definition.specs.Classes.{Base, Class, find, superOf, loaderOf, slots, slotIs, hasField}
 use Rattle.definition.specs.Constraints.{World, newTie, post}
 use Rattle.definition.specs.Instructions.{Decoded}
 use Rattle.definition.specs.Machine.{Value, emptyValue, intValue, nullValue, objectValue, unlistedValue, Object, Frame, newObject, pop!, int!, ofKind!, kind!, room!, under!, Now, past}
-use Rattle.first.specs.Signatures.{firstArgument, firstSelected, firstStartSignature, firstSignatureTies}
-use Rattle.first.specs.Files.{firstDecode}
+use Rattle.definition.specs.First.Signatures.{firstArgument, firstSelected, firstStartSignature, firstSignatureTies}
+use Rattle.definition.specs.First.Files.{firstDecode}
 use Rattle.definition.specs.Answers.{wanted, Result, refused, ok, _>>=_, need, take?}
 
 -- an object exists from its making until its row is emptied
 unfoldable pub firstExisting : List Object → ℕ → Option Object

@@ -5,18 +5,18 @@ use mathlib.Core.List.{List, [], _∷_}
 use Prim.Native.Nat.{ℕ, zero, suc, _+_}
 use lib.ListN.{length, take, drop, getD}
 use lib.Dec.{eqb, leb}
 use Rattle.definition.specs.declared.Kind.the-variants.{IntKind, ReferenceKind}
 use Rattle.definition.specs.declared.Operator.the-variants.{Add, Subtract}
 use Rattle.definition.specs.declared.Signature.{Signature}
 use Rattle.definition.specs.declared.Opcode.{Opcode}
 use Rattle.definition.specs.declared.Opcode.the-variants.{OpAconstNull, OpSipush, OpLoad, OpStore, OpPop, OpDup, OpArithmetic, OpGetfield, OpPutfield, OpInvokevirtual, OpInvokevirtualList, OpNew, OpReturn, OpBranch, OpUnknown}
 use Rattle.definition.specs.Numbers.{nameObject, versionOne, fileLimit, codeLimit}
 use Rattle.definition.specs.Lists.{doubled}
 use Rattle.definition.specs.Maybe.{_>>=_, need}
 use Rattle.definition.specs.Classes.{Method}
 use Rattle.definition.specs.File.{File, Got, byte, short, name, count, fieldsIn, ends, sameField}
 use Rattle.definition.specs.Instructions.{pick, instructionOf, Decoded, sizedAs}
-use Rattle.first.specs.Signatures.{firstSignature, firstAlike}
+use Rattle.definition.specs.First.Signatures.{firstSignature, firstAlike}
 
 -- name, argument type, result type
 unfoldable pub firstSignatureIn : List ℕ → Option (Got Signature)

@@ -6,21 +6,21 @@ use mathlib.Core.List.{List, [], _∷_, _++_}
 use Prim.Native.Nat.{ℕ, zero, suc, _+_}
 use lib.ListN.{length}
 use lib.Dec.{eqb, leb, ltb}
 use Rattle.definition.specs.declared.Refusal.the-variants.{Word}
 use Rattle.definition.specs.declared.Instruction.{Instruction}
 use Rattle.definition.specs.declared.Instruction.the-variants.{AconstNull, Sipush, Load, Store, Pop, Dup, Arithmetic, Getfield, Putfield, Invokevirtual, New, Return, Branch}
 use Rattle.definition.specs.Numbers.{wordFile, wordTaken, wordUnverified, wordHidden, wordClash, wordFull, nameObject, classLimit, cacheLimit, tieLimit, subtypeLimit, fieldLimit}
 use Rattle.definition.specs.Lists.{every, any, isNone}
 use Rattle.definition.specs.Maybe as Maybe
 use Rattle.definition.specs.Requests.{at}
 use Rattle.definition.specs.Classes.{Base, Class, Field, Method, find, slots}
 use Rattle.definition.specs.File.{classOf}
 use Rattle.definition.specs.Constraints.{World, agrees}
 use Rattle.definition.specs.Verifier.{Note, typeClass, TypeState, Flow, typeOfName, meetClass, meets, pop, flow, effect, returns, returnKind}
 use Rattle.definition.specs.Loading.{newSubtypes, withClass}
 use Rattle.definition.specs.Answers.{wanted, Result, ok, _>>=_, need, take?}
-use Rattle.first.specs.Signatures.{firstArgument, firstIsNamed, firstOverrideTies}
-use Rattle.first.specs.Files.{firstReadFile, firstDecode}
+use Rattle.definition.specs.First.Signatures.{firstArgument, firstIsNamed, firstOverrideTies}
+use Rattle.definition.specs.First.Files.{firstReadFile, firstDecode}
 
 -- point 0: local 0 the class's own name, local 1 the argument type, the rest unset
 abbrev pub firstEntryTypes : Class → Method → TypeState

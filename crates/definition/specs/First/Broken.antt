@@ -4,14 +4,14 @@ use mathlib.Core.List.{List, [], _∷_}
 use Prim.Native.Nat.{ℕ, _+_}
 use lib.ListN.{length, getD}
 use lib.Dec.{leb, ltb}
 use Rattle.definition.specs.Numbers.{loaderLimit, fieldLimit, operandLimit, classLimit, keptLimit, cacheLimit, tieLimit, subtypeLimit, objectLimit, frameLimit, countClasses, countKept, countCache, countTies, countSubtypes, countObjects, countFrames}
 use Rattle.definition.specs.Lists.{every, all, allFrom, isSome}
 use Rattle.definition.specs.Classes.{Base, superOf}
 use Rattle.definition.specs.Machine.{Value, emptyValue, intValue, nullValue, objectValue, unlistedValue, Object, Frame}
 use Rattle.definition.specs.Tables.{ClassRow, sizeOf}
 use Rattle.definition.specs.Broken.{isObject, entryFits, tieFits, subtypeFits}
-use Rattle.first.specs.Machine.{firstExisting}
-use Rattle.first.specs.Tables.{FirstTables, firstShaped, firstFileAt, firstBaseOf, FirstRows, firstView}
+use Rattle.definition.specs.First.Machine.{firstExisting}
+use Rattle.definition.specs.First.Tables.{FirstTables, firstShaped, firstFileAt, firstBaseOf, FirstRows, firstView}
 
 -- another class, of number c: its kept file reads by the file rules, its superclass is cached with a lower number, it has at most 16 fields
 unfoldable pub firstClassFits : Base → List ℕ → ℕ → ClassRow → Bool

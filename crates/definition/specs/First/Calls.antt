@@ -5,25 +5,25 @@ use mathlib.Core.List.{List, [], _∷_, _++_}
 use Prim.Native.Nat.{ℕ, _+_}
 use lib.ListN.{length}
 use lib.Dec.{leb, ltb}
 use Rattle.definition.specs.declared.Refusal.{Refusal}
 use Rattle.definition.specs.declared.Refusal.the-variants.{Word}
 use Rattle.definition.specs.declared.Answer.{Answer}
 use Rattle.definition.specs.declared.Answer.the-variants.{Idle, Refused}
 use Rattle.definition.specs.declared.Reply.{Reply}
 use Rattle.definition.specs.declared.Reply.the-variants.{Accepted, Defined, Denied}
 use Rattle.definition.specs.Numbers.{wordBroken, wordFile, wordUnknown, nameObject, loaderLimit, taskLimit, keptLimit, runLimit}
 use Rattle.definition.specs.Constraints.{World}
 use Rattle.definition.specs.Answers.{Result, refused, ok, _>>=_, need, take?}
 use Rattle.definition.specs.Machine.{Frame}
 use Rattle.definition.specs.Loading.{recorded}
 use Rattle.definition.specs.File.{classOf}
 use Rattle.definition.specs.Tables.{classRow, entry}
 use Rattle.definition.specs.Calls.{answerOf, Done, done, runFrom, ofStep}
-use Rattle.first.specs.Files.{firstReadFile}
-use Rattle.first.specs.Verifier.{firstDefine}
-use Rattle.first.specs.Machine.{FirstProgress, firstStep, firstStarted}
-use Rattle.first.specs.Tables.{FirstTables, firstShaped, FirstRows, firstNoRows, firstWithClasses, firstWithKept, firstWithCache, firstWithTies, firstWithSubtypes, firstWithObjects, firstFramesIn, firstWithFrames, firstWorldOf, firstView, firstPut}
-use Rattle.first.specs.Broken.{firstBroken}
+use Rattle.definition.specs.First.Files.{firstReadFile}
+use Rattle.definition.specs.First.Verifier.{firstDefine}
+use Rattle.definition.specs.First.Machine.{FirstProgress, firstStep, firstStarted}
+use Rattle.definition.specs.First.Tables.{FirstTables, firstShaped, FirstRows, firstNoRows, firstWithClasses, firstWithKept, firstWithCache, firstWithTies, firstWithSubtypes, firstWithObjects, firstFramesIn, firstWithFrames, firstWorldOf, firstView, firstPut}
+use Rattle.definition.specs.First.Broken.{firstBroken}
 
 abbrev pub FirstReply : Type 0
 FirstReply = Reply
