@@ -1,9 +1,11 @@
 -- Why a load clashed, papers 3, 9 and 13: the chains of P5, P6 and P7 and of loads beside them, the shortest and of those the newest, from a boot of any tables that
 -- boot accepts.
 use mathlib.Core.Path.{_≡_, refl, ap, _∙_}
+use mathlib.Core.Bool.{true}
 use mathlib.Core.List.{List, [], _∷_, _++_, map}
-use Prim.Native.Nat.{ℕ}
+use Prim.Native.Nat.{ℕ, suc}
 use lib.ListN.{replicate, take}
+use lib.Dec.{eqb}
 use Rattle.definition.specs.declared.Reply.the-variants.{Accepted}
 use Rattle.definition.specs.Lists.{every, all, any, doubled, indexOf, isSome, isNone, toList, sameList, filled, rows, writeRows}
 use Rattle.definition.specs.Maybe as Maybe
@@ -69,25 +71,29 @@ direct =
     ++ callDefine 1 (taker 40 2) ∷ callRecord 3 40 1 ∷ callDefine 3 (taker 41 40) ∷ callRecord 2 40 1 ∷ callDefine 2 (taker 42 40)
     ∷ callRecord 3 42 3 ∷ callDefine 3 (taker 43 42) ∷ callDefine 1 (plain 12 2) ∷ []
 
+-- (l,13) loaded as class c + 1, which loader 5 makes below class c, whose name is 12
+abbrev lowered : ℕ → ℕ → List Call
+lowered l c = callRecord 5 12 c ∷ callDefine 5 (plain 13 12) ∷ callRecord l 13 (suc c) ∷ []
+
 -- 13 below 12 in 3, then ties 1–2 and 2–3 on 12; (1,12) loaded, and (3,13) as a class below it
 abbrev lifted : List Call
 lifted =
     ready
     ++ callDefine 3 lifts ∷ callDefine 1 (taker 40 2) ∷ callRecord 2 40 2 ∷ callDefine 2 (taker 41 40) ∷ callRecord 3 41 3 ∷ callDefine 3 (taker 42 41)
-    ∷ callDefine 1 (plain 12 2) ∷ callRecord 3 60 5 ∷ callDefine 3 (plain 13 60) ∷ []
+    ∷ callDefine 1 (plain 12 2) ∷ lowered 3 5
 
 -- ties 1–2 and 1–3 on 12, then 13 below 12 in 1; (3,12) loaded, and (1,13) as a class below it
 abbrev mixed : List Call
 mixed =
     tied12
-    ++ callRecord 3 40 1 ∷ callDefine 3 (taker 42 40) ∷ callDefine 1 lifts ∷ callDefine 3 (plain 12 2) ∷ callRecord 1 60 5 ∷ callDefine 1 (plain 13 60) ∷ []
+    ++ callRecord 3 40 1 ∷ callDefine 3 (taker 42 40) ∷ callDefine 1 lifts ∷ callDefine 3 (plain 12 2) ∷ lowered 1 5
 
 -- a tie 1–3 on 12, then 13 below 12 in 4, then ties 3–2 and 2–4 on 12; (1,12) loaded, and (4,13) as a class below it
 abbrev apart : List Call
 apart =
     ready
     ++ callDefine 1 (taker 40 2) ∷ callRecord 3 40 1 ∷ callDefine 3 (taker 41 40) ∷ callRecord 4 2 0 ∷ callDefine 4 lifts ∷ callRecord 2 41 2
-    ∷ callDefine 2 (taker 42 41) ∷ callRecord 4 42 4 ∷ callDefine 4 (taker 43 42) ∷ callDefine 1 (plain 12 2) ∷ callRecord 4 60 6 ∷ callDefine 4 (plain 13 60) ∷ []
+    ∷ callDefine 2 (taker 42 41) ∷ callRecord 4 42 4 ∷ callDefine 4 (taker 43 42) ∷ callDefine 1 (plain 12 2) ∷ lowered 4 6
 
 -- ties 1–3 and 3–2 on 41, with (1,41) loaded; and a tie 1–2 on 12 still to be posted, with (1,12) and (2,12) loaded
 abbrev around : List Call
@@ -149,6 +155,11 @@ expected c = c .word ∷ c .chain
 computed : map (λ c. told (triedRows c)) tryings ≡ map expected tryings
 unfolding told expected tryings triedRows tryLoadRows tryRows triedWith tried listed afterDefine reasonAfter reason reasonOver shortest ofLength bestFrom best along ended firstOf earlier precedes tieLinks subtypeLinks numberedOn rows writeRows every all any doubled indexOf isSome isNone toList sameList filled Maybe._>>=_ Maybe.need has fires rest grow reachFrom reach leads sameRequest number numberOf _>>=_ need take? seek nearest below find lower superOf loaderOf ownSlots slotsIn slots slotIs hasField sameSignature alike methodsOf hasMethod selected isNamed tieEdges subtypeEdges edges pairAgrees rowAgrees agreesOver agrees tieIs newTie newTies signatureTies agreesAfter post byte short name count fieldsIn oneIn argumentsIn signatureIn namesIn mapIn mapsFrom mapsIn methodsIn ends sameField sameMethod readFile pick opcodeOf inlineLength shortAt extend instructionOf sizedAs decode typeOfName meetClass meetInt meets meetKind pop popAll effect returns returnKind target goesOn mapAt localType meetLocal meetAll meetMap flowInto flowToTarget startAt after mapsPast verify typesAt unmappedFrom unmapped notesOfMethod notesOf subtypeIs newSubtypes overrideTie overrideTies define recorded fileAt classAt defineRows entryTrace recordRows settle onRows performRows performAllRows two method fileOf plain taker lifts ready tied12 tied123 Verifier.turn
 computed = refl
+
+-- every call that goes before is accepted, so the chains that a case speaks of are there
+accepted-before : all (λ c. all (λ a. eqb (numberOf a) 0) (performAllRows (c .before) bootRows .answer)) tryings ≡ true
+unfolding tryings numberedOn rows every all any doubled indexOf isSome isNone toList sameList filled Maybe._>>=_ Maybe.need has fires rest grow reachFrom reach leads sameRequest number numberOf _>>=_ need take? seek nearest below find lower superOf loaderOf ownSlots slotsIn slots slotIs hasField sameSignature alike methodsOf hasMethod selected isNamed tieEdges subtypeEdges edges pairAgrees rowAgrees agreesOver agrees tieIs newTie newTies signatureTies agreesAfter post byte short name count fieldsIn oneIn argumentsIn signatureIn namesIn mapIn mapsFrom mapsIn methodsIn ends sameField sameMethod readFile pick opcodeOf inlineLength shortAt extend instructionOf sizedAs decode typeOfName meetClass meetInt meets meetKind pop popAll effect returns returnKind target goesOn mapAt localType meetLocal meetAll meetMap flowInto flowToTarget startAt after mapsPast verify typesAt unmappedFrom unmapped notesOfMethod notesOf subtypeIs newSubtypes overrideTie overrideTies define recorded fileAt classAt defineRows entryTrace recordRows settle onRows performRows performAllRows two method fileOf plain taker lifts ready tied12 tied123 Verifier.turn
+accepted-before = refl
 
 -- on tables
 unfoldable pub triedOn : Tables → TriedCase → Tried
