@@ -16,6 +16,7 @@ pub mod Words
 pub mod Sane
 pub mod Carried
 pub mod Safety
+pub mod Joined
 pub mod Fields
 pub mod Passed
 pub mod Bits
