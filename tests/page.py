@@ -194,8 +194,8 @@ def main(words):
         if name.startswith('mistake-') and name not in mistaken:
             fail(f'{name} shows no mistake')
     browser.looks(1200, 900)
-    for name in ['first', 'p6-a-chain', 'two-orders', 'age-bands']:
-        printed(browser, os.path.join(folder, name + '.html'))
+    for lesson in lessons:
+        printed(browser, os.path.join(folder, os.path.basename(lesson)[:-len('.lesson')] + '.html'))
     with tempfile.TemporaryDirectory() as work:
         hostile(browser, box, work)
         many(browser, box, work)

@@ -7,9 +7,9 @@ use crate::expect;
 use crate::lesson;
 
 /// Words within a statement, a class or a method.
-pub const CONNECTING: [&str; 24] = [
-    "defines", "records", "starts", "of", "as", "loader", "task", "quote", "report", "off", "extends", "version", "field", "method", "map", "at", "bytes",
-    "after", "expect", "counts", "classes", "kept", "cache", "frames",
+pub const CONNECTING: [&str; 25] = [
+    "defines", "records", "starts", "back", "of", "as", "loader", "task", "quote", "report", "off", "extends", "version", "field", "method", "map", "at",
+    "bytes", "after", "expect", "counts", "classes", "kept", "cache", "frames",
 ];
 
 /// Tables that have no other meaning.

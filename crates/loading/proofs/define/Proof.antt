@@ -40,14 +40,14 @@ add-end c = let start = c .before .before .before .before .before .before .befor
 
 enter-class-requires : tie.Need-enter-class-requires
 unfolding loadOf held
-enter-class-requires c κs = let start = c .before .before .before .before .before .before .before .before .before .before .before .before .before .before .before .before .before .before .before .before .before .before .before .before .before .before .before .before .before .before .before .before .before .before .before .before .before .before .before .before .before .before .before .before .before .before .before .before .before .before .before .before .before in
-    let sized = planned-new _ (c .before .before .before .before .before .before .before .before .before .before .before .before .before .before .before .before .before .before .before .before .before .before .before .before .plan2 .given .1) (c .before .before .before .before .before .before .before .before .before .before .before .before .before .before .before .before .before .before .before .before .before .before .before .before .before .before .decide .ensures (loadDefine (start .args .loader) (now (start .args .file))) 512 _ _ _ _ (c .before .before .before .before .before .before .before .before .before .before .before .before .before .before .before .before .before .before .before .before .before .before .before .before .before .before .before .before .before .before .before .before .before .before .before .admit .ensures)) .newly .fits .sized in
+enter-class-requires c κs = let start = c .before .before .before .before .before .before .before .before .before .before .before .before .before .before .before .before .before .before .before .before .before .before .before .before .before .before .before .before .before .before .before .before .before .before .before .before .before .before .before .before .before .before .before .before .before .before .before .before .before .before .before .before .before .before in
+    let sized = planned-new _ (c .before .before .before .before .before .before .before .before .before .before .before .before .before .before .before .before .before .before .before .before .before .before .before .before .before .plan2 .given .1) (c .before .before .before .before .before .before .before .before .before .before .before .before .before .before .before .before .before .before .before .before .before .before .before .before .before .before .before .decide .ensures (loadDefine (start .args .loader) (now (start .args .file))) 512 _ _ _ _ (c .before .before .before .before .before .before .before .before .before .before .before .before .before .before .before .before .before .before .before .before .before .before .before .before .before .before .before .before .before .before .before .before .before .before .before .before .admit .ensures)) .newly .fits .sized in
     (omega (arith, sized .room), sized .grown)
 
 reply-of-requires : tie.Need-reply-of-requires
 unfolding loadOf held
-reply-of-requires c κs = let start = c .before .before .before .before .before .before .before .before .before .before .before .before .before .before .before .before .before .before .before .before .before .before .before .before .before .before .before .before .before .before .before .before .before .before .before .before .before .before .before .before .before .before .before .before .before .before .before .before .before .before .before .before .before .before .before .before .before .before in
-    planned-new _ (c .before .before .before .before .before .before .before .before .before .before .before .before .before .before .before .before .before .before .before .before .before .before .before .before .before .before .before .before .before .plan2 .given .1) (c .before .before .before .before .before .before .before .before .before .before .before .before .before .before .before .before .before .before .before .before .before .before .before .before .before .before .before .before .before .before .before .decide .ensures (loadDefine (start .args .loader) (now (start .args .file))) 512 _ _ _ _ (c .before .before .before .before .before .before .before .before .before .before .before .before .before .before .before .before .before .before .before .before .before .before .before .before .before .before .before .before .before .before .before .before .before .before .before .before .before .before .before .before .admit .ensures)) .newly .fits .sized .class
+reply-of-requires c κs = let start = c .before .before .before .before .before .before .before .before .before .before .before .before .before .before .before .before .before .before .before .before .before .before .before .before .before .before .before .before .before .before .before .before .before .before .before .before .before .before .before .before .before .before .before .before .before .before .before .before .before .before .before .before .before .before .before .before .before .before .before in
+    planned-new _ (c .before .before .before .before .before .before .before .before .before .before .before .before .before .before .before .before .before .before .before .before .before .before .before .before .before .before .before .before .before .before .plan2 .given .1) (c .before .before .before .before .before .before .before .before .before .before .before .before .before .before .before .before .before .before .before .before .before .before .before .before .before .before .before .before .before .before .before .before .decide .ensures (loadDefine (start .args .loader) (now (start .args .file))) 512 _ _ _ _ (c .before .before .before .before .before .before .before .before .before .before .before .before .before .before .before .before .before .before .before .before .before .before .before .before .before .before .before .before .before .before .before .before .before .before .before .before .before .before .before .before .before .admit .ensures)) .newly .fits .sized .class
 
 returns : tie.Need-returns
 unfolding loadOf held Planned
@@ -63,32 +63,32 @@ same-length-13 : tie.Need-same-length-13
 same-length-13 c = c .before .before .before .before .before .enter-class .kept .0
 
 same-length-14 : tie.Need-same-length-14
-same-length-14 c = c .before .before .before .before .before .before .before .before .before .before .before .before .before .before .before .before .before .before .before .before .write-class .kept .1 .0
+same-length-14 c = c .before .before .before .before .before .before .before .before .before .before .before .before .before .before .before .before .before .before .before .before .before .write-class .kept .1 .0
 
 same-length-15 : tie.Need-same-length-15
-same-length-15 c = c .before .before .before .before .before .before .before .before .before .before .before .before .before .before .before .before .before .before .before .before .write-class .kept .1 .1 .0
+same-length-15 c = c .before .before .before .before .before .before .before .before .before .before .before .before .before .before .before .before .before .before .before .before .before .write-class .kept .1 .1 .0
 
 same-length-16 : tie.Need-same-length-16
 same-length-16 c = c .before .before .before .before .before .enter-class .kept .1 .0
 
 same-length-17 : tie.Need-same-length-17
-same-length-17 c = c .before .before .before .before .before .before .before .before .before .before .before .before .before .before .before .before .before .before .before .before .write-class .kept .1 .1 .1 .0
+same-length-17 c = c .before .before .before .before .before .before .before .before .before .before .before .before .before .before .before .before .before .before .before .before .before .write-class .kept .1 .1 .1 .0
 
 same-length-18 : tie.Need-same-length-18
-same-length-18 c = c .before .before .before .before .before .before .before .before .before .before .before .before .before .before .before .before .before .before .before .before .write-class .kept .1 .1 .1 .1 .0
+same-length-18 c = c .before .before .before .before .before .before .before .before .before .before .before .before .before .before .before .before .before .before .before .before .before .write-class .kept .1 .1 .1 .1 .0
 
 returns-3 : tie.Need-returns-3
 unfolding loadOf held written
-returns-3 c = let start = c .before .before .before .before .before .before .before .before .before .before .before .before .before .before .before .before .before .before .before .before .before .before .before .before .before .before .before .before .before .before .before .before .before .before .before .before .before .before .before .before .before .before .before .before .before .before .before .before .before .before .before .before .before .before .before .before .before .before .before in
+returns-3 c = let start = c .before .before .before .before .before .before .before .before .before .before .before .before .before .before .before .before .before .before .before .before .before .before .before .before .before .before .before .before .before .before .before .before .before .before .before .before .before .before .before .before .before .before .before .before .before .before .before .before .before .before .before .before .before .before .before .before .before .before .before .before in
     let counts = now (start .args .counts) in
     let file = now (start .args .file) in
-    let n = c .before .before .before .before .before .before .before .before .before .before .before .before .before .before .before .before .before .before .before .before .before .before .before .before .before .before .before .before .before .before .plan2 .given .0 .0 in
-    let class = c .before .before .before .before .before .before .before .before .before .before .before .before .before .before .before .before .before .before .before .before .write-class .ensures in
+    let n = c .before .before .before .before .before .before .before .before .before .before .before .before .before .before .before .before .before .before .before .before .before .before .before .before .before .before .before .before .before .before .before .plan2 .given .0 .0 in
+    let class = c .before .before .before .before .before .before .before .before .before .before .before .before .before .before .before .before .before .before .before .before .before .write-class .ensures in
     (λ i. done (c .reply-of .ensures i) (tables
-    ((c .before .before .before .before .before .enter-class .ensures .0 ∙ (λ j. groupedWith n counts (class .1 .1 .0 j) (countsWith n (c .before .before .before .before .before .before .before .before .before .before .at16 .ensures j + 1) (c .before .before .before .before .before .before .before .before .at162 .ensures j + length file) counts))) i)
+    ((c .before .before .before .before .before .enter-class .ensures .0 ∙ (λ j. groupedWith n counts (class .1 .1 .0 j) (countsWith n (c .before .before .before .before .before .before .before .before .before .before .before .at16 .ensures j + 1) (c .before .before .before .before .before .before .before .before .before .at162 .ensures j + length file) counts))) i)
     (class .0 i) (class .1 .0 i) (c .before .before .before .before .before .enter-class .ensures .1 i) (class .1 .1 .0 i) (class .1 .1 .1 i)
     (now (start .args .objects)) (now (start .args .frames))))
-    ∙ (planned-new _ (c .before .before .before .before .before .before .before .before .before .before .before .before .before .before .before .before .before .before .before .before .before .before .before .before .before .before .before .before .before .before .plan2 .given .1) (c .before .before .before .before .before .before .before .before .before .before .before .before .before .before .before .before .before .before .before .before .before .before .before .before .before .before .before .before .before .before .before .before .decide .ensures (loadDefine (start .args .loader) (now (start .args .file))) 512 _ _ _ _ (c .before .before .before .before .before .before .before .before .before .before .before .before .before .before .before .before .before .before .before .before .before .before .before .before .before .before .before .before .before .before .before .before .before .before .before .before .before .before .before .before .before .admit .ensures)) .whole ∙ offered-whole (loadDefine (start .args .loader) (now (start .args .file))) (tables (now (start .args .counts)) (now (start .args .classes)) (now (start .args .kept)) (now (start .args .cache)) (now (start .args .ties)) (now (start .args .subtypes)) (now (start .args .objects)) (now (start .args .frames))))
+    ∙ (planned-new _ (c .before .before .before .before .before .before .before .before .before .before .before .before .before .before .before .before .before .before .before .before .before .before .before .before .before .before .before .before .before .before .before .plan2 .given .1) (c .before .before .before .before .before .before .before .before .before .before .before .before .before .before .before .before .before .before .before .before .before .before .before .before .before .before .before .before .before .before .before .before .before .decide .ensures (loadDefine (start .args .loader) (now (start .args .file))) 512 _ _ _ _ (c .before .before .before .before .before .before .before .before .before .before .before .before .before .before .before .before .before .before .before .before .before .before .before .before .before .before .before .before .before .before .before .before .before .before .before .before .before .before .before .before .before .before .admit .ensures)) .whole ∙ offered-whole (loadDefine (start .args .loader) (now (start .args .file))) (tables (now (start .args .counts)) (now (start .args .classes)) (now (start .args .kept)) (now (start .args .cache)) (now (start .args .ties)) (now (start .args .subtypes)) (now (start .args .objects)) (now (start .args .frames))))
 
 pub define-spec : {M : Type 1} → statement M
 define-spec =
