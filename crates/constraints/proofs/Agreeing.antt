@@ -34,7 +34,7 @@ use Rattle.constraints.proofs.Named.{number-eq, first-unique, low-at, h
 
 module _ (cache : List ℕ) (n : ℕ) (ties : List ℕ) (tied : ℕ) (subtypes : List ℕ) (noted : ℕ) (beside numbers nodes classes groups : List ℕ) (few : n + noted + noted + tied + tied ≤ placeLimit)
     (put : AllNumbered cache n ties tied subtypes noted numbers) (isNode : NodesOf numbers (n + noted + noted + tied + tied) nodes)
-    (isClass : ClassesOf cache nodes n classes) (grouping : GroupsOf nodes (n + noted + noted + tied + tied) (n + noted + noted) tied beside groups) where
+    (isClass : ClassesOf cache nodes n classes) (grouping : GroupsOf nodes (n + noted + noted) tied beside groups) where
   abbrev ones : ℕ
   ones = n + noted + noted
 
@@ -44,15 +44,13 @@ module _ (cache : List ℕ) (n : ℕ) (ties : List ℕ) (tied : ℕ) (subtypes :
   abbrev named : ℕ → Request
   named p = requestOf (getD numbers p 0)
 
-  abbrev grouped : ℕ → Request
-  grouped p = at 0 (getD groups p 0)
-
-  abbrev labels : List ℕ
-  labels = grouping .labels
+  -- the label of a place's node
+  abbrev label : ℕ → ℕ
+  label p = labelIn nodes ones tied beside (getD nodes p 0)
 
   -- places of one label
   abbrev Joint : ℕ → ℕ → Type 0
-  Joint p q = getD labels p 0 ≡ getD labels q 0
+  Joint p q = label p ≡ label q
 
   abbrev rowsFrom : ℕ → ℕ → List Tie
   rowsFrom k i = rows (tieAt ties) k i
@@ -65,9 +63,6 @@ module _ (cache : List ℕ) (n : ℕ) (ties : List ℕ) (tied : ℕ) (subtypes :
 
   abbrev theSubtypes : List (Edge Request)
   theSubtypes = subtypeEdges (rows (subtypeAt subtypes) noted 0)
-
-  abbrev theLinks : List (Edge Request)
-  theLinks = linksOf groups n (n + noted) noted
 
   -- the group that a request has beside the ties
   abbrev groupBeside : Request → Option ℕ
@@ -108,10 +103,8 @@ module _ (cache : List ℕ) (n : ℕ) (ties : List ℕ) (tied : ℕ) (subtypes :
       go true t e r = subst (λ (u : Bool). elim u as (λ _. ℕ) [ true ↦ placeLimit + getD beside i 0 | false ↦ labelFrom nodes ones tied beside k (suc i) x ] ≡ placeLimit + getD beside i 0) e refl
       go false t e r = subst (λ (u : Bool). elim u as (λ _. ℕ) [ true ↦ placeLimit + getD beside i 0 | false ↦ labelFrom nodes ones tied beside k (suc i) x ] ≡ labelBy x (groupIn (rowsFrom k (suc i)) (groupsFrom k (suc i)) (named x))) e r
 
-  label-is : (p : ℕ) → p < places → getD labels p 0 ≡ labelBy (getD nodes p 0) (groupBeside (named p))
-  label-is p h =
-      grouping .isLabel p h
-      ∙ (label-read tied 0 (getD nodes p 0) (omega arith) (its-own p h) ∙ ap (λ (r : Request). labelBy (getD nodes p 0) (groupBeside r)) (node-named p h))
+  label-is : (p : ℕ) → p < places → label p ≡ labelBy (getD nodes p 0) (groupBeside (named p))
+  label-is p h = label-read tied 0 (getD nodes p 0) (omega arith) (its-own p h) ∙ ap (λ (r : Request). labelBy (getD nodes p 0) (groupBeside r)) (node-named p h)
 
   -- places of one label are those whose requests groups join
 
@@ -157,7 +150,7 @@ module _ (cache : List ℕ) (n : ℕ) (ties : List ℕ) (tied : ℕ) (subtypes :
       let s = shared-out (rowsFrom tied 0) (groupsFrom tied 0) d m in
       let a = end-place (d .from) (s .group) (s .from) in
       let b = end-place (d .to) (s .group) (s .to) in
-      let labelled : (p : ℕ) → p < places → (r : Request) → r ≡ named p → groupBeside r ≡ some (s .group) → getD labels p 0 ≡ placeLimit + s .group =
+      let labelled : (p : ℕ) → p < places → (r : Request) → r ≡ named p → groupBeside r ≡ some (s .group) → label p ≡ placeLimit + s .group =
       λ p h r e q. label-is p h ∙ ap (labelBy (getD nodes p 0)) (ap groupBeside (sym e) ∙ q) in
       record {
         start = a .place;
@@ -170,30 +163,62 @@ module _ (cache : List ℕ) (n : ℕ) (ties : List ℕ) (tied : ℕ) (subtypes :
       }
 
   -- groups are by labels
-  group-tied : (p q : ℕ) → p < places → q < places → getD groups p 0 ≡ getD groups q 0 → Joint p q
-  group-tied p q h k e = sym (grouping .isGroup p h .same) ∙ (ap (λ (x : ℕ). getD labels x 0) e ∙ grouping .isGroup q k .same)
 
-  tied-group : (p q : ℕ) → p < places → q < places → Joint p q → getD groups p 0 ≡ getD groups q 0
-  tied-group p q h k e = first-unique e (grouping .isGroup p h) (grouping .isGroup q k)
+  group-label : (p : ℕ) → p < ones → getD (grouping .labels) (getD groups p 0) 0 ≡ label p
+  group-label p h = grouping .isGroup p h .same ∙ grouping .isLabel p h
 
-  tied-same : (a b : ℕ) → a < places → b < places → leads sameRequest theTies (named a) (named b) ≡ eqb (getD groups a 0) (getD groups b 0)
+  group-tied : (p q : ℕ) → p < ones → q < ones → getD groups p 0 ≡ getD groups q 0 → Joint p q
+  group-tied p q h k e = sym (group-label p h) ∙ (ap (λ (x : ℕ). getD (grouping .labels) x 0) e ∙ group-label q k)
+
+  tied-group : (p q : ℕ) → p < ones → q < ones → Joint p q → getD groups p 0 ≡ getD groups q 0
+  tied-group p q h k e = first-unique (grouping .isLabel p h ∙ (e ∙ sym (grouping .isLabel q k))) (grouping .isGroup p h) (grouping .isGroup q k)
+
+  tied-same : (a b : ℕ) → a < ones → b < ones → leads sameRequest theTies (named a) (named b) ≡ eqb (getD groups a 0) (getD groups b 0)
   tied-same a b h k =
       same-test (leads sameRequest theTies (named a) (named b)) (eqb (getD groups a 0) (getD groups b 0))
       (λ q. eq-eqb (getD groups a 0) (getD groups b 0)
-      (tied-group a b h k (carried named Joint places theTies name-tied (λ p q r x y. x ∙ y) tie-places a b h k (leads-chain requests theTies (named a) (named b) q))))
-      (λ q. chain-leads requests theTies (named a) (named b) (joint-chain a b h k (group-tied a b h k (eqb-true (getD groups a 0) (getD groups b 0) q))))
+      (tied-group a b h k (carried named Joint places theTies name-tied (λ p q r x y. x ∙ y) tie-places a b (omega arith) (omega arith) (leads-chain requests theTies (named a) (named b) q))))
+      (λ q. chain-leads requests theTies (named a) (named b) (joint-chain a b (omega arith) (omega arith) (group-tied a b h k (eqb-true (getD groups a 0) (getD groups b 0) q))))
 
-  -- links are the subtype constraints between groups
+  -- the subtype constraints between places, under any keys of these
+
+  linkBy : (ℕ → ℕ) → ℕ → Edge Request
+  linkBy f e = record { from = at 0 (f (n + e)); to = at 0 (f (n + noted + e)) }
+
+  linksBy : (ℕ → ℕ) → List (Edge Request)
+  linksBy f = rows (linkBy f) noted 0
+
+  abbrev ByKey : (ℕ → ℕ) → ℕ → ℕ → Type 0
+  ByKey f p q = Chain (linksBy f) (at 0 (f p)) (at 0 (f q))
+
+  link-of : (f : ℕ → ℕ) (i : ℕ) → i < noted → ByKey f (n + i) (n + noted + i)
+  unfolding linksBy linkBy
+  link-of f i h = hop (stay refl) (in-rows (linkBy f) noted 0 i (omega arith) (omega arith))
+
+  -- keys that are one for the same places give the same chains
+  rekeyed : (f g : ℕ → ℕ) → ((p q : ℕ) → p < ones → q < ones → f p ≡ f q → g p ≡ g q) → (a b : ℕ) → a < ones → b < ones → ByKey f a b → ByKey g a b
+  unfolding linksBy linkBy
+  rekeyed f g same = carried (λ p. at 0 (f p)) (ByKey g) ones (linksBy f) (λ p q h k e. stay (ap (λ (x : ℕ). at 0 x) (same p q h k (ap (λ (r : Request). r .name) e)))) (λ p q r. chain-join) between
+    where
+      between : (d : Edge Request) → List·Memᴰ d (linksBy f) → Carried (λ p. at 0 (f p)) (ByKey g) ones d
+      between d m =
+          let p = rows-in (linkBy f) noted 0 d m in
+          let h : p .number < noted = omega (arith, p .high) in
+          record {
+            start = n + p .number;
+            end = n + noted + p .number;
+            startFits = omega arith;
+            endFits = omega arith;
+            from = ap (λ (x : Edge Request). x .from) (p .is);
+            to = ap (λ (x : Edge Request). x .to) (p .is);
+            related = link-of g (p .number) h;
+          }
 
   abbrev Onward : ℕ → ℕ → Type 0
-  Onward p q = Chain theLinks (grouped p) (grouped q)
+  Onward p q = ByKey label p q
 
-  tied-onward : (p q : ℕ) → p < places → q < places → Joint p q → Onward p q
-  tied-onward p q h k t = stay (ap (λ (x : ℕ). at 0 x) (tied-group p q h k t))
-
-  link-of : (i : ℕ) → i < noted → Onward (n + i) (n + noted + i)
-  unfolding linksOf linkOf startOf
-  link-of i h = hop (stay refl) (in-rows (linkOf groups n (n + noted)) noted 0 i (omega arith) (omega arith))
+  tied-onward : (p q : ℕ) → Joint p q → Onward p q
+  tied-onward p q t = stay (ap (λ (x : ℕ). at 0 x) t)
 
   any-link : (d : Edge Request) → List·Memᴰ d (theTies ++ theSubtypes) → Carried named Onward places d
   any-link d m = elim (List·Memᴰ·append-cases theTies m) [ inl a ↦ one (tie-places d a) | inr b ↦ two (of-subtype (rows (subtypeAt subtypes) noted 0) d b) ]
@@ -206,7 +231,7 @@ module _ (cache : List ℕ) (n : ℕ) (ties : List ℕ) (tied : ℕ) (subtypes :
         endFits = c .endFits;
         from = c .from;
         to = c .to;
-        related = tied-onward (c .start) (c .end) (c .startFits) (c .endFits) (c .related);
+        related = tied-onward (c .start) (c .end) (c .related);
       }
 
       way : (i : ℕ) → i < noted → d ≡ upward (subtypeAt subtypes i) → Carried named Onward places d
@@ -217,7 +242,7 @@ module _ (cache : List ℕ) (n : ℕ) (ties : List ℕ) (tied : ℕ) (subtypes :
         endFits = omega arith;
         from = ap (λ (x : Edge Request). x .from) e ∙ sym (low-at put i h);
         to = ap (λ (x : Edge Request). x .to) e ∙ sym (high-at put i h);
-        related = link-of i h;
+        related = link-of label i h;
       }
 
       two : OfSubtype (rows (subtypeAt subtypes) noted 0) d → Carried named Onward places d
@@ -227,14 +252,13 @@ module _ (cache : List ℕ) (n : ℕ) (ties : List ℕ) (tied : ℕ) (subtypes :
   abbrev Leading : ℕ → ℕ → Type 0
   Leading p q = Chain (theTies ++ theSubtypes) (named p) (named q)
 
-  group-leading : (p q : ℕ) → p < places → q < places → grouped p ≡ grouped q → Leading p q
-  group-leading p q h k e =
-      chain-more (λ d m. Memᴰ·append-left theSubtypes m) (joint-chain p q h k (group-tied p q h k (ap (λ (r : Request). r .name) e)))
+  label-leading : (p q : ℕ) → p < places → q < places → at 0 (label p) ≡ at 0 (label q) → Leading p q
+  label-leading p q h k e = chain-more (λ d m. Memᴰ·append-left theSubtypes m) (joint-chain p q h k (ap (λ (r : Request). r .name) e))
 
-  link-back : (d : Edge Request) → List·Memᴰ d theLinks → Carried grouped Leading places d
-  unfolding linksOf linkOf startOf
+  link-back : (d : Edge Request) → List·Memᴰ d (linksBy label) → Carried (λ p. at 0 (label p)) Leading places d
+  unfolding linksBy linkBy
   link-back d m =
-      let p = rows-in (linkOf groups n (n + noted)) noted 0 d m in
+      let p = rows-in (linkBy label) noted 0 d m in
       let h : p .number < noted = omega (arith, p .high) in
       record {
         start = n + p .number;
@@ -247,20 +271,28 @@ module _ (cache : List ℕ) (n : ℕ) (ties : List ℕ) (tied : ℕ) (subtypes :
             (upward-in (in-rows (subtypeAt subtypes) noted 0 (p .number) (omega arith) (omega arith)))));
       }
 
-  led-same : (a b : ℕ) → a < places → b < places
+  onward : (a b : ℕ) → a < places → b < places → Leading a b → Onward a b
+  onward = carried named Onward places (theTies ++ theSubtypes) (λ p q h k e. tied-onward p q (name-tied p q h k e)) (λ p q r. chain-join) any-link
+
+  leading : (a b : ℕ) → a < places → b < places → Onward a b → Leading a b
+  leading = carried (λ p. at 0 (label p)) Leading places (linksBy label) label-leading (λ p q r. chain-join) link-back
+
+  led-same : (a b : ℕ) → a < ones → b < ones
       → leads sameRequest (theTies ++ theSubtypes) (named a) (named b) ≡ leadsOn groups n noted (getD groups a 0) (getD groups b 0)
-  unfolding leadsOn
+  unfolding leadsOn linksOf linkOf startOf linksBy linkBy
   led-same a b h k =
-      same-test (leads sameRequest (theTies ++ theSubtypes) (named a) (named b)) (leads sameRequest theLinks (grouped a) (grouped b))
-      (λ q. chain-leads requests theLinks (grouped a) (grouped b)
-      (carried named Onward places (theTies ++ theSubtypes) (λ p r i j e. tied-onward p r i j (name-tied p r i j e)) (λ p q r. chain-join) any-link a b h k
-      (leads-chain requests (theTies ++ theSubtypes) (named a) (named b) q)))
+      same-test (leads sameRequest (theTies ++ theSubtypes) (named a) (named b)) (leads sameRequest (linksBy group) (at 0 (group a)) (at 0 (group b)))
+      (λ q. chain-leads requests (linksBy group) (at 0 (group a)) (at 0 (group b))
+      (rekeyed label group tied-group a b h k (onward a b (omega arith) (omega arith) (leads-chain requests (theTies ++ theSubtypes) (named a) (named b) q))))
       (λ q. chain-leads requests (theTies ++ theSubtypes) (named a) (named b)
-      (carried grouped Leading places theLinks group-leading (λ p q r. chain-join) link-back a b h k (leads-chain requests theLinks (grouped a) (grouped b) q)))
+      (leading a b (omega arith) (omega arith) (rekeyed group label group-tied a b h k (leads-chain requests (linksBy group) (at 0 (group a)) (at 0 (group b)) q))))
+    where
+      group : ℕ → ℕ
+      group p = getD groups p 0
 
   -- agreement
 
-  row-same : (E : List (Edge Request)) (f : ℕ → ℕ → Bool) → ((a b : ℕ) → a < places → b < places → leads sameRequest E (named a) (named b) ≡ f a b)
+  row-same : (E : List (Edge Request)) (f : ℕ → ℕ → Bool) → ((a b : ℕ) → a < ones → b < ones → leads sameRequest E (named a) (named b) ≡ f a b)
       → (a b : ℕ) → a < n → b < n → has sameRequest (entryAt cache b .request) (reach sameRequest E (entryAt cache a .request)) ≡ f a b
   unfolding leads
   row-same E f e a b h k = rw (cached-at put a h, cached-at put b k) at (e a b (omega arith) (omega arith))

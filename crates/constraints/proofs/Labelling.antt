@@ -2,7 +2,7 @@
 use mathlib.Core.Path.{_≡_, refl, sym, ap, subst, _∙_}
 use mathlib.Core.Bool.{Bool, true, false, _||_}
 use mathlib.Core.List.{List}
-use Prim.Native.Nat.{ℕ, suc, _+_, _<_, _≤_}
+use Prim.Native.Nat.{ℕ, zero, suc, _+_, _-_, _<_, _≤_}
 use native.Mathlib.Omega.{arith}
 use lib.ListN.{length, getD, set, length-set}
 use lib.Seq.{getD-set-same, getD-set-other}
@@ -10,6 +10,7 @@ use lib.Dec.{eqb}
 use borrow.Author.Tests.{eqb-true, eqb-false}
 use Rattle.constraints.specs.Nodes.{placeLimit, First, NodesOf}
 use Rattle.constraints.specs.Groups.{labelFrom, Rooted}
+use Rattle.constraints.proofs.Rows.{Order, less, equal, more, order}
 use Rattle.constraints.proofs.Named.{first-unique}
 
 -- one row more
@@ -41,10 +42,32 @@ module _ (nodes labels gs : List ℕ) (ones tied k i n v : ℕ) (is : v ≡ plac
           ∙ (ap (λ (y : ℕ). getD (set labels a v) y 0) (sym (eqb-true a x p)) ∙ (getD-set-same labels a v 0 one ∙ is))
       go false false p q = getD-set-other (set labels a v) b x v 0 (λ e. eqb-false b x q (sym e)) ∙ (getD-set-other labels a x v 0 (λ e. eqb-false a x p (sym e)) ∙ all x h)
 
+-- the row before row i, whose ends and label are given by their values
+pub label-before : (nodes labels gs : List ℕ) (ones tied i n one two v : ℕ) → 0 < i → i ≤ tied → v ≡ placeLimit + getD gs (i - 1) 0 → one ≡ getD nodes (ones + (i - 1)) 0
+    → two ≡ getD nodes (ones + tied + (i - 1)) 0 → one < length labels → two < length labels → ((x : ℕ) → x < n → getD labels x 0 ≡ labelFrom nodes ones tied gs (tied - i) i x)
+    → (x : ℕ) → x < n → getD (set (set labels one v) two v) x 0 ≡ labelFrom nodes ones tied gs (tied - (i - 1)) (i - 1) x
+label-before nodes labels gs ones tied zero n one two v h few is p q l m all = absurd (omega arith)
+label-before nodes labels gs ones tied (suc j) n one two v h few is p q l m all =
+    let z : suc j - 1 ≡ j = omega arith in
+    let k : tied - j ≡ suc (tied - suc j) = omega arith in
+    let one-is : one ≡ getD nodes (ones + j) 0 = rw z at p in
+    let two-is : two ≡ getD nodes (ones + tied + j) 0 = rw z at q in
+    rw (z, k, one-is, two-is) (label-more nodes labels gs ones tied (tied - suc j) j n v (rw z at is) (rw one-is at l) (rw two-is at m) all)
+
 -- before any row each node is its own label
-pub label-none : (nodes labels gs : List ℕ) (ones tied i n : ℕ) → ((x : ℕ) → x < n → getD labels x 0 ≡ x) → (x : ℕ) → x < n → getD labels x 0 ≡ labelFrom nodes ones tied gs 0 i x
+pub label-none : (nodes labels gs : List ℕ) (ones tied n : ℕ) → ((x : ℕ) → x < n → getD labels x 0 ≡ x) → (x : ℕ) → x < n → getD labels x 0 ≡ labelFrom nodes ones tied gs (tied - tied) tied x
 unfolding labelFrom
-label-none nodes labels gs ones tied i n h x l = h x l
+label-none nodes labels gs ones tied n h x l = let e : tied - tied ≡ 0 = omega arith in rw e (h x l)
+
+-- where the labels below place p are those of their nodes, and the others as they were, the label of p's node is as it was
+pub label-kept : (nodes labels old : List ℕ) (p : ℕ) → getD nodes p 0 ≤ p → getD nodes (getD nodes p 0) 0 ≡ getD nodes p 0 → ((q : ℕ) → q < p → getD labels q 0 ≡ getD old (getD nodes q 0) 0)
+    → ((q : ℕ) → p ≤ q → getD labels q 0 ≡ getD old q 0) → getD labels (getD nodes p 0) 0 ≡ getD old (getD nodes p 0) 0
+label-kept nodes labels old p low top below above = go (order (getD nodes p 0) p)
+  where
+    go : Order (getD nodes p 0) p → getD labels (getD nodes p 0) 0 ≡ getD old (getD nodes p 0) 0
+    go (less h) = below (getD nodes p 0) h ∙ ap (λ (x : ℕ). getD old x 0) top
+    go (equal h) = above (getD nodes p 0) (omega arith)
+    go (more h) = absurd (omega arith)
 
 -- the first places with a label are roots
 pub rooted-by : (labels groups : List ℕ) (n m : ℕ) → m ≤ n → NodesOf labels n groups → Rooted groups m

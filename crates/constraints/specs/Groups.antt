@@ -25,8 +25,8 @@ pub record Rooted (groups : List ℕ) (n : ℕ) : Type 0 where
   pub low : (p : ℕ) → p < n → getD groups p 0 ≤ p
   pub top : (p : ℕ) → p < n → getD groups (getD groups p 0) 0 ≡ getD groups p 0
 
--- the groups of n places: the first place with the same label
-pub record GroupsOf (nodes : List ℕ) (n ones tied : ℕ) (gs groups : List ℕ) : Type 0 where
+-- the groups of the places before the ties': the first place with the same label
+pub record GroupsOf (nodes : List ℕ) (ones tied : ℕ) (gs groups : List ℕ) : Type 0 where
   pub labels : List ℕ
-  pub isLabel : (p : ℕ) → p < n → getD labels p 0 ≡ labelIn nodes ones tied gs (getD nodes p 0)
-  pub isGroup : NodesOf labels n groups
+  pub isLabel : (p : ℕ) → p < ones → getD labels p 0 ≡ labelIn nodes ones tied gs (getD nodes p 0)
+  pub isGroup : NodesOf labels ones groups

@@ -27,8 +27,8 @@ fn label_alone(n: usize, labels: &mut [u32])
 
 // Each node that a tie names has for label the group beside the first tie that does: the last is written first.
 fn label_nodes(nodes: &[u16], ones: usize, tied: usize, beside: &[u16], labels: &mut [u32])
-    requires { ⌜ (ones + tied + tied ≤ placeLimit) × (length (now nodes) ≡ placeLimit) × (length (now labels) ≡ placeLimit) × ((p : ℕ) → p < ones + tied + tied → getD (now nodes) p 0 ≤ p) × ((p : ℕ) → p < ones + tied + tied → getD (now labels) p 0 ≡ p) ⌝ }
-    ensures { λ _. ⌜ ((x : ℕ) → x < ones + tied + tied → getD (now (labels .exit)) x 0 ≡ labelIn (now (nodes .entry)) ones tied (now (beside .entry)) x) ⌝ }
+    requires { ⌜ (ones + tied + tied ≤ placeLimit) × (length (now nodes) ≡ placeLimit) × (length (now labels) ≡ placeLimit) × ((p : ℕ) → p < ones + tied + tied → getD (now nodes) p 0 ≤ p) × ((p : ℕ) → p < ones → getD (now labels) p 0 ≡ p) ⌝ }
+    ensures { λ _. ⌜ ((x : ℕ) → x < ones → getD (now (labels .exit)) x 0 ≡ labelIn (now (nodes .entry)) ones tied (now (beside .entry)) x) ⌝ }
 {
     let mut i = tied;
     while 0 < i {
@@ -54,7 +54,7 @@ fn label_places(nodes: &[u16], n: usize, labels: &mut [u32])
     }
 }
 
-// The groups of all places, by their nodes, the ties, which stand last, and the groups beside these. What the tables `labels` and `nexts` hold before and after is of
+// The groups of the places before the ties', by all nodes and the groups beside the ties. What the tables `labels` and `nexts` hold before and after is of
 // no matter.
 pub(crate) fn group_places(
     nodes: &[u16],
@@ -65,12 +65,11 @@ pub(crate) fn group_places(
     groups: &mut [u16],
     nexts: &mut [u16],
 )
-    requires { ⌜ (ones + tied + tied ≤ placeLimit) × (length (now nodes) ≡ placeLimit) × (length (now labels) ≡ placeLimit) × (length (now groups) ≡ placeLimit) × (length (now nexts) ≡ placeLimit) × ((p : ℕ) → p < ones + tied + tied → getD (now nodes) p 0 ≤ p) × ((p : ℕ) → p < ones + tied + tied → getD (now nodes) (getD (now nodes) p 0) 0 ≡ getD (now nodes) p 0) ⌝ }
-    ensures { λ _. ⌜ GroupsOf (now (nodes .entry)) (ones + tied + tied) ones tied (now (beside .entry)) (now (groups .exit)) ⌝ }
+    requires { ⌜ (ones + tied + tied ≤ placeLimit) × (length (now nodes) ≡ placeLimit) × (length (now labels) ≡ placeLimit) × (length (now groups) ≡ placeLimit) × (length (now nexts) ≡ placeLimit) × ((p : ℕ) → p < ones + tied + tied → getD (now nodes) p 0 ≤ p) × ((p : ℕ) → p < ones → getD (now nodes) (getD (now nodes) p 0) 0 ≡ getD (now nodes) p 0) ⌝ }
+    ensures { λ _. ⌜ GroupsOf (now (nodes .entry)) ones tied (now (beside .entry)) (now (groups .exit)) ⌝ }
 {
-    let n = ones + tied + tied;
-    label_alone(n, labels);
+    label_alone(ones, labels);
     label_nodes(nodes, ones, tied, beside, labels);
-    label_places(nodes, n, labels);
-    number_nodes(labels, n, groups, nexts);
+    label_places(nodes, ones, labels);
+    number_nodes(labels, ones, groups, nexts);
 }
