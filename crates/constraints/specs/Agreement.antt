@@ -15,6 +15,7 @@ use Rattle.definition.specs.declared.Check.{Check}
 use Rattle.definition.specs.declared.Check.the-variants.{Agreed}
 use Rattle.definition.specs.Checks.{breaking}
 use Rattle.definition.specs.Tables.{entryAt, tieAt, subtypeAt}
+use Rattle.constraints.specs.Shared.{sharedEdges}
 use Rattle.constraints.specs.declared.pairs.Found.{Found}
 use Rattle.constraints.specs.declared.pairs.Found.the-variants.{NoPair, Pair}
 
@@ -34,6 +35,10 @@ entriesIn t n = rows (entryAt t) (atMost cacheLimit n) 0
 abbrev pub tiesIn : List ℕ → ℕ → List (Edge Request)
 tiesIn t n = tieEdges (rows (tieAt t) (atMost tieLimit n) 0)
 
+-- the edges between requests of the first ties that have one group beside them
+abbrev pub sharedIn : List ℕ → List ℕ → ℕ → List (Edge Request)
+sharedIn t g n = sharedEdges (rows (tieAt t) (atMost tieLimit n) 0) (rows (λ i. getD g i 0) (atMost tieLimit n) 0)
+
 -- the edges of the first subtype constraints
 abbrev pub subtypesIn : List ℕ → ℕ → List (Edge Request)
 subtypesIn t n = subtypeEdges (rows (subtypeAt t) (atMost subtypeLimit n) 0)
@@ -41,6 +46,10 @@ subtypesIn t n = subtypeEdges (rows (subtypeAt t) (atMost subtypeLimit n) 0)
 -- the edges of both
 abbrev pub edgesIn : List ℕ → ℕ → List ℕ → ℕ → List (Edge Request)
 edgesIn ties tied subtypes noted = tiesIn ties tied ++ subtypesIn subtypes noted
+
+-- the same, with groups in the place of ties
+abbrev pub ledIn : List ℕ → List ℕ → ℕ → List ℕ → ℕ → List (Edge Request)
+ledIn ties groups tied subtypes noted = sharedIn ties groups tied ++ subtypesIn subtypes noted
 
 -- the request of row x of the cache, if it is one of the first n
 unfoldable pub newOf : List ℕ → ℕ → ℕ → Option Request
