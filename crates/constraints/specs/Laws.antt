@@ -1,11 +1,12 @@
 -- Laws for callers: agreement of tables as agreement of a store's rows.
-use mathlib.Core.Path.{_≡_, refl, sym, subst}
+use mathlib.Core.Path.{_≡_, refl, sym, ap, subst, _∙_}
+use mathlib.Core.Bool.{Bool, true}
 use mathlib.Core.Option.{Option, some}
 use mathlib.Core.List.{List, _++_}
 use Prim.Native.Nat.{ℕ, _≤_}
 use lib.ListN.{length, getD, getElem?}
 use borrow.Author.Tests.{le-leb}
-use Rattle.definition.specs.Lists.{rows}
+use Rattle.definition.specs.Lists.{rows, all}
 use Rattle.definition.specs.Classes.{Entry, superOf}
 use Rattle.definition.specs.Requests.{Request}
 use Rattle.definition.specs.Chains.{Edge}
@@ -13,7 +14,11 @@ use Rattle.definition.specs.Constraints.{World, Tie, tieEdges, subtypeEdges, ed
 use Rattle.definition.specs.declared.Check.{Check}
 use Rattle.definition.specs.Checks.{NamesOver, Names}
 use Rattle.definition.specs.Groups.{groupsOf}
+use Rattle.definition.specs.Broken.{tieFits}
 use Rattle.definition.specs.Tables.{entryAt, tieAt, subtypeAt}
+use Rattle.layout.specs.Places.{rows-length}
+use Rattle.groups.specs.Lowest as lowest
+use Rattle.groups.specs.Laws.{there-row}
 use Rattle.constraints.specs.Shared.{sharedEdges, SameChains, shared-tied, tied-shared, shared-led, led-shared, names-alike}
 use Rattle.constraints.specs.Agreement.{atMost, superIn, entriesIn, sharedIn, ledIn}
 
@@ -28,6 +33,20 @@ pub record Beside (ties groups : List ℕ) (tied : ℕ) : Type 0 where
   pub long : length numbers ≡ length (rows (tieAt ties) tied 0)
   pub once : (i j n : ℕ) → getElem? numbers i ≡ some n → getElem? numbers j ≡ some n → i ≡ j
   pub are : rows (λ i. getD groups i 0) tied 0 ≡ groupsOf (rows (tieAt ties) tied 0) numbers
+
+-- so are those made of ties that lie between loaders
+pub beside-made : (ties old new : List ℕ) (n : ℕ) (r : Bool) → n ≤ 256 → n ≤ length old → all tieFits (rows (tieAt ties) n 0) ≡ true
+    → lowest.RowGroups ties (lowest.atMost 256 n) old r new → Beside ties new n
+unfolding lowest.atMost
+beside-made ties old new n r few room fits made = record {
+  numbers = rows (λ i. i) n 0;
+  long = rows-length (λ i. i) n 0 ∙ sym (rows-length (tieAt ties) n 0);
+  once = λ i j m p q. sym (there-row (λ x. x) n i m p .1) ∙ there-row (λ x. x) n j m q .1;
+  are = g .groups (g .fits ∙ rw (le-leb n (length old) room, fits) refl);
+}
+  where
+    g : lowest.RowGroups ties n old r new
+    g = subst (λ (k : ℕ). lowest.RowGroups ties k old r new) (rw (le-leb n 256 few, lowest.atMost) refl) made
 
 -- the check of tables is that of the store, where the counts are within their limits, the table of superclasses has the store's, and the groups beside the ties are right
 pub names-store : (w : World) (supers cache ties groups subtypes : List ℕ) (n tied noted : ℕ) (new : Option Request) (r : Check)
