@@ -1416,7 +1416,7 @@ static void joined_and_parted(void)
         set(0, GROUPS + 2, 65535);
         defines("a tie of both", define(3, 18, 13, 0, 12, ZERO), 7);
         check("joined", grouped(GROUPED(0, 0, 0)) && count_at(TIE_NUMBERS + 2) == 3);
-        clashes("across the join", define(0, 12, 2, 0, 0, 0, NULL), ROWS(0, 3, 2));
+        clashes("across the join, from loader 0's 12", define(0, 12, 2, 0, 0, 0, NULL), ROWS(2, 3, 0));
         refuses("so it isn't loaded", define(0, 12, 2, 0, 0, 0, NULL), TARIFF_CLASH);
         accepts("taken back", take_back());
         keep(&after);
