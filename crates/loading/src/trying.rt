@@ -200,6 +200,16 @@ pub(crate) fn offer(
     match plan {
         Plan::Refuse(r) => entries::unlisted(Reply::Denied(r)),
         Plan::Keep => entries::unlisted(Reply::Accepted),
-        Plan::Add(n) => explain(counts, classes, kept, cache, ties, beside, subtypes, n, list),
+        Plan::Add(n) => explain(
+            counts,
+            classes,
+            kept,
+            cache,
+            ties,
+            beside,
+            subtypes,
+            n,
+            list,
+        ),
     }
 }
