@@ -274,7 +274,7 @@ uint8_t tariff_change_over(const uint16_t *old_counts, size_t old_counts_length,
 
 /* try define, try record: the load isn't made, and is answered as it would be. No table of the store changes. If it clashes, the first cells
    of the list get the numbers of the rows, upward, of the shortest chain of constraints that breaks agreement (of several of one length that
-   with the lower row at the earliest position where they differ, a chain of ties alone being read from either end), and TARIFF_CELL_STEPS how
+   with the newer row at the earliest position where they differ, a chain of ties alone being read from either end), and TARIFF_CELL_STEPS how
    many they are; the list past them stays, and on any other answer all of it. Refusals: 1 3 16 2 15 6 4 5 10 9, and 1 3 16 13 4 10 9. */
 uint8_t tariff_try_define(const uint16_t *counts, size_t counts_length, const uint16_t *classes, size_t classes_length,
                           const uint8_t *kept, size_t kept_length, const uint16_t *cache, size_t cache_length,
