@@ -35,9 +35,9 @@ returns-4 c =
 
 check-ties-requires : tie.Need-check-ties-requires
 check-ties-requires c κs =
-    let args = c .args in
-    let pre = c .pre in
-    (pre .0, pre .1, rw (← c .before .before .before .before .at16 .ensures, ← c .before .before .tie-number .ensures .0) (c .if4 .left), pre .2, rw (c .new-ties .ensures) (news-between _ (args .one) (args .two) _ (pre .3) (pre .4)))
+    let args = c .before .before .before .before .before .before .before .before .before .before .before .before .before .args in
+    let pre = c .before .before .before .before .before .before .before .before .before .before .before .before .before .pre in
+    (pre .0, pre .1, rw (← c .before .before .before .before .at16 .ensures, ← c .before .before .tie-number .ensures .0) (c .if4 .left), pre .2, rw (c .before .before .before .new-ties .ensures) (news-between _ (args .one) (args .two) _ (pre .3) (pre .4)))
 
 returns-5 : tie.Need-returns-5
 unfolding agrees
