@@ -6,7 +6,8 @@ use crate::changeover::{carried, change_over, old_tables, side_by_side, Later, L
 use crate::compare::{both, sound};
 use crate::gen::cells::each_cell;
 use crate::gen::damage::probes;
-use crate::gen::halfway::{damaged_old, half, new_tables, SHAPES};
+use crate::gen::halfway::{after, damaged_old, half, halves_of_two, new_tables, using_up, SHAPES};
+use crate::gen::rng::Rng;
 use crate::gen::{cases, Call};
 use crate::host::{self, expected, CELLS};
 use crate::old::{self, OldStore};
@@ -118,14 +119,18 @@ impl Carrying {
         }
     }
 
-    /// Every cell of an old store changed alone.
+    /// Every cell of an old store changed alone, whose tasks are both half run; and what needs no seed.
     pub fn cells(&mut self) {
-        let old = half(HALF_RUN).old;
+        let old = after(&halves_of_two(&mut Rng::new(1)).calls);
         each_cell(&carried(&old), |store, label| {
             self.change(&old_tables(store), &Store::zeros(), CELLS, label);
         });
         let store = cases::whole();
         self.change(&old_tables(&store), &store, CELLS, "a store of files of version 1");
+        let half = using_up();
+        if let Some(new) = self.change(&half.old, &store, CELLS, "a report that uses up its share") {
+            self.go_on(&half.old, &new, &half.calls, true, "a report that uses up its share");
+        }
     }
 
     pub fn add(&mut self, other: &Carrying) {
@@ -150,9 +155,6 @@ impl Carrying {
         unmet
     }
 }
-
-/// A seed of a history with both tasks half run.
-const HALF_RUN: u64 = 18;
 
 impl fmt::Display for Carrying {
     fn fmt(&self, f: &mut fmt::Formatter) -> fmt::Result {

@@ -6,7 +6,7 @@ use reference::broken::unbroken;
 use reference::changeover::{carried, change_over, old_tables, side_by_side, LATER};
 use reference::file::File;
 use reference::gen::files::file;
-use reference::gen::halfway::{damaged_old, half, made, new_tables, SHAPES};
+use reference::gen::halfway::{after, damaged_old, half, made, new_tables, SHAPES};
 use reference::gen::rng::Rng;
 use reference::gen::Call;
 use reference::old::{self, OldStore};
@@ -148,11 +148,7 @@ fn the_cells_that_are_filled() {
 fn a_reports_objects_are_the_quotes() {
     let mut most = 0;
     for seed in 0..40 {
-        let trial = made(&mut Rng::new(seed));
-        let mut old = OldStore::zeros();
-        for call in &trial.calls {
-            old::make(call, &mut old);
-        }
+        let old = after(&made(&mut Rng::new(seed)).calls);
         let mut new = Store::zeros();
         assert_eq!(change_over(&old, &mut new), Reply::Accepted);
         assert_eq!([new.made_by(0), new.made_by(1)], [old.count(5), 0]);

@@ -71,8 +71,8 @@ pub const FAULTS: [Changing; 23] = [
     ("the-last-objects-that-nobody-holds-go", "in the counts: ", |old, new| {
         filled(old, new, |_, store| {
             let left = reached(store, Without::Nothing).last().map_or(0, |&last| last as usize + 1);
+            store.owners_mut()[left..].fill(FREE);
             store.counts[count::OBJECTS] = left as u16;
-            store.counts[count::OWNERS..count::TIE_NUMBERS][left..].fill(FREE);
         })
     }),
     ("the-trace-is-the-new-tables", "in the trace", |old, new| {

@@ -87,8 +87,30 @@ pub fn made(rng: &mut Rng) -> Trial {
     trial
 }
 
+/// The store after these calls of the old machine's.
+pub fn after(calls: &[Call]) -> OldStore {
+    let mut old = OldStore::zeros();
+    for call in calls {
+        old::make(call, &mut old);
+    }
+    old
+}
+
+/// A report that makes more objects after a changeover than it may hold.
+pub fn using_up() -> Half {
+    let mut trial = Trial::ready([1]);
+    trial.define(1, &maker());
+    let cut = trial.calls.len();
+    for _ in 0..3 {
+        trial.start(1, 1, NODE, MAIN, 7);
+        trial.run(400);
+        trial.drop_task(1);
+    }
+    Half { old: after(&trial.calls[..cut]), calls: trial.calls[cut..].to_vec() }
+}
+
 /// Both tasks half run: each in a method that another frame of its waits for, with objects of both, and a note that was posted before a tie.
-fn halves_of_two(rng: &mut Rng) -> Trial {
+pub fn halves_of_two(rng: &mut Rng) -> Trial {
     let mut trial = Trial::ready([1, 2]);
     let inner = Code::new().object(12).dup().iload(1).putfield(12, 31, 1).getfield(12, 31, 1).ireturn();
     let outer = |class: u16| Code::new().aload(0).iload(1).invoke(class, MAIN + 1, 1, 1).int(5).iadd().ireturn();

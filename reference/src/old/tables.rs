@@ -128,6 +128,23 @@ impl OldStore {
         [self.counts.len(), classes, self.kept.len(), cache, ties, subtypes, self.objects.len(), self.frames.len()]
     }
 
+    /// Overwrites a cell of the table at this place, of whose number the low bits; says whether there is such a cell.
+    pub fn set(&mut self, table: usize, cell: usize, value: u32) -> bool {
+        let is_there = self.lengths().get(table).is_some_and(|&length| cell < length);
+        match table {
+            _ if !is_there => {}
+            0 => self.counts[cell] = value as u16,
+            1 => self.classes[cell] = value as u16,
+            2 => self.kept[cell] = value as u8,
+            3 => self.cache[cell] = value as u16,
+            4 => self.ties[cell] = value as u16,
+            5 => self.subtypes[cell] = value as u16,
+            6 => self.objects[cell] = value,
+            _ => self.frames[cell] = value,
+        }
+        is_there
+    }
+
     pub fn count(&self, which: usize) -> usize {
         self.counts[which].into()
     }
