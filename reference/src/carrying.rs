@@ -7,7 +7,6 @@ use crate::compare::{both, sound};
 use crate::gen::cells::each_cell;
 use crate::gen::damage::probes;
 use crate::gen::halfway::{after, damaged_old, half, halves_of_two, new_tables, using_up, SHAPES};
-use crate::gen::rng::Rng;
 use crate::gen::{cases, Call};
 use crate::host::{self, expected, CELLS};
 use crate::old::{self, OldStore};
@@ -121,7 +120,7 @@ impl Carrying {
 
     /// Every cell of an old store changed alone, whose tasks are both half run; and what needs no seed.
     pub fn cells(&mut self) {
-        let old = after(&halves_of_two(&mut Rng::new(1)).calls);
+        let old = after(&halves_of_two([5, 6]).calls);
         each_cell(&carried(&old), |store, label| {
             self.change(&old_tables(store), &Store::zeros(), CELLS, label);
         });

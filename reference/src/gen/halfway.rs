@@ -45,7 +45,7 @@ fn history(seed: u64, rng: &mut Rng) -> Trial {
         12..=14 => chains(seed, 30),
         15 | 16 => graphs(seed, 40),
         17 => made(rng),
-        18 => halves_of_two(rng),
+        18 => halves_of_two([rng.within(3, 8), rng.within(3, 30)]),
         _ => {
             let cases = cases::cases();
             cases[rng.below(cases.len())].clone()
@@ -109,8 +109,9 @@ pub fn using_up() -> Half {
     Half { old: after(&trial.calls[..cut]), calls: trial.calls[cut..].to_vec() }
 }
 
-/// Both tasks half run: each in a method that another frame of its waits for, with objects of both, and a note that was posted before a tie.
-pub fn halves_of_two(rng: &mut Rng) -> Trial {
+/// Both tasks half run, the report for so many steps and then the quote: each is in a method that another frame of its waits for from 3 to 10 steps,
+/// with objects of both, and a note that was posted before a tie.
+pub fn halves_of_two([report, quote]: [usize; 2]) -> Trial {
     let mut trial = Trial::ready([1, 2]);
     let inner = Code::new().object(12).dup().iload(1).putfield(12, 31, 1).getfield(12, 31, 1).ireturn();
     let outer = |class: u16| Code::new().aload(0).iload(1).invoke(class, MAIN + 1, 1, 1).int(5).iadd().ireturn();
@@ -123,11 +124,11 @@ pub fn halves_of_two(rng: &mut Rng) -> Trial {
         trial.define(loader, &Draft::new(20).main(MAIN, &outer(20)).main(MAIN + 1, &inner));
     }
     trial.start(1, 2, 20, MAIN, 40);
-    for _ in 0..rng.within(3, 8) {
+    for _ in 0..report {
         trial.step();
     }
     trial.start(0, 1, 20, MAIN, 70);
-    for _ in 0..rng.within(3, 30) {
+    for _ in 0..quote {
         trial.step();
     }
     trial
