@@ -22,12 +22,12 @@ use Rattle.laws.specs.Chains.{requests, leads-chain, chain-leads, chain-join, c
 use Rattle.layout.specs.Tests.{same-test}
 use Rattle.constraints.specs.Nodes.{placeLimit, requestOf, AllNumbered, First, NodesOf, ClassesOf}
 use Rattle.constraints.specs.Groups.{labelFrom, labelIn, GroupsOf}
-use Rattle.constraints.specs.Shared.{sharedEdges, Sharing, shared-in, shared-out, group-end, end-tie}
+use Rattle.constraints.specs.Shared.{sharedEdges, shared-in, shared-out, group-end, end-tie}
 use Rattle.constraints.specs.Search.{startOf, linkOf, linksOf, leadsOn}
 use Rattle.constraints.specs.Pairs.{pairIs, pairOn, agreeOn}
 use Rattle.constraints.proofs.Rows.{in-rows, rows-in, all-same}
 use Rattle.constraints.proofs.Renaming.{Carried, carried}
-use Rattle.constraints.proofs.Edges.{edge-at, forward, upward, upward-in, OfSubtype, of-subtype}
+use Rattle.constraints.proofs.Edges.{edge-at, upward, upward-in, OfSubtype, of-subtype}
 use Rattle.constraints.proofs.Named.{number-eq, first-unique, low-at, high-at, one-at, two-at, cached-at, found}
 
 -- A store as groups

@@ -1,5 +1,5 @@
 -- Labels written row by row, and groups of places by their labels.
-use mathlib.Core.Path.{_≡_, refl, sym, ap, subst, _∙_}
+use mathlib.Core.Path.{_≡_, refl, sym, ap, _∙_}
 use mathlib.Core.Bool.{Bool, true, false, _||_}
 use mathlib.Core.List.{List}
 use Prim.Native.Nat.{ℕ, zero, suc, _+_, _-_, _<_, _≤_}
@@ -8,7 +8,7 @@ use lib.ListN.{length, getD, set, length-set}
 use lib.Seq.{getD-set-same, getD-set-other}
 use lib.Dec.{eqb}
 use borrow.Author.Tests.{eqb-true, eqb-false}
-use Rattle.constraints.specs.Nodes.{placeLimit, First, NodesOf}
+use Rattle.constraints.specs.Nodes.{placeLimit, NodesOf}
 use Rattle.constraints.specs.Groups.{labelFrom, Rooted}
 use Rattle.constraints.proofs.Rows.{Order, less, equal, more, order}
 use Rattle.constraints.proofs.Named.{first-unique}
