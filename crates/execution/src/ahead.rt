@@ -1,4 +1,5 @@
 // Steps of the top frame that touch it alone or a field that is remembered, ahead of the next step that doesn't.
+use crate::memory::key_of;
 use crate::reaching::Pace;
 use crate::reaching::walk;
 use definition::Answer;
@@ -89,7 +90,7 @@ pub(crate) fn go_ahead(
     }
     let first = first_number(classfile::version(file));
     let last = first + 256;
-    let key = (8 * c + m) as u16;
+    let key = key_of(c, m);
     let from = cells::wide32(b);
     let end = from + FRAME_CELLS;
     let row = &mut frames[from..end];

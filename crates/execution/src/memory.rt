@@ -1,10 +1,18 @@
 // What a run remembers of the places of the code: a fact for a method, a point and a receiver's class, in two tables of 512 cells.
 ghost use mathlib.Core.Path.{_≡_};
-ghost use Prim.Native.Nat.{_<_};
+ghost use Prim.Native.Nat.{_+_, _*_, _<_};
 ghost use lib.ListN.{getD, set};
 ghost use Rattle.execution.specs.Memory.{tagOf, indexOf, recalled};
 
-// The points of a method's code, the classes, and the methods: what a place is made of.
+// The number of method m of class c.
+pub(crate) fn key_of(c: u32, m: u32) -> u16
+    requires { ⌜ (c < 64) × (m < 8) ⌝ }
+    ensures { λ x. ⌜ (x ≡ 8 * c + m) × (x < 512) ⌝ }
+{
+    (8 * c + m) as u16
+}
+
+// Where a place's tag and fact are kept: places share an index, never a tag.
 fn index_of(key: u16, p: u16, r: u16) -> usize
     ensures { λ x. ⌜ x ≡ indexOf key p r ⌝ }
 {

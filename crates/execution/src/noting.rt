@@ -1,5 +1,6 @@
 // What is remembered of the place at which the top frame stands: the slot of the field that its instruction names, for receivers of a class. It is looked up before
 // the step that does the instruction, and only a slot that is reached with no tie to post is remembered.
+use crate::memory::key_of;
 use crate::memory::remember;
 use definition::Arguments;
 use definition::Instruction;
@@ -215,7 +216,7 @@ fn place_of(
     }
     Place {
         known: true,
-        key: (8 * c + m) as u16,
+        key: key_of(c, m),
         point: p as u16,
         class: r as u16,
         fact: f,

@@ -76,23 +76,17 @@ nowhere-requires-6 c κs = search needs
 returns-6 : tie.Need-returns-6
 returns-6 c = λ h. absurd (true≢false (sym h ∙ c .nowhere6 .ensures))
 
-mul-t22 : tie.Need-mul-t22
-mul-t22 c = search needs
+key-of-requires : tie.Need-key-of-requires
+key-of-requires c κs = search needs
 
-add-t23 : tie.Need-add-t23
-add-t23 c = search needs
+cast-t23 : tie.Need-cast-t23
+cast-t23 c = search needs
 
 cast-t24 : tie.Need-cast-t24
 cast-t24 c = search needs
 
-cast-t25 : tie.Need-cast-t25
-cast-t25 c = search needs
-
-cast-t26 : tie.Need-cast-t26
-cast-t26 c = search needs
-
 returns-7 : tie.Need-returns-7
-returns-7 c = λ h. (fact-of _ _ _ _ _ _ _ _ _ _ _ _ (c .before .before .before .before .before .before .before .before .before .before .before .before .before .before .if2 .left) (reads-at _ _ _ _ _ _ _ _ _ _ _ _ (c .before .before .before .before .before .before .before .before .before .before .version .ensures) (c .before .before .before .before .before .before .before .before .before .before .before .code-of .ensures) (c .before .before .before .before .before .before .before .before .before .before .before .before .file-of .ensures) (c .before .before .before .before .before .before .before .before .before .wide32 .ensures .0) (read-at _ _ (c .before .before .before .before .before .before .before .before .decode .ensures) _ _ (c .before .before .before .before .before .before .i .given .1))) (rw (c .before .before .loader-of .ensures) at (c .before .fact-of .ensures (c .if5 .left))) _ refl, omega (arith, c .before .before .before .before .before .before .before .before .before .before .before .before .before .before .before .if1 .left, c .before .before .before .before .before .before .before .before .before .before .before .before .before .before .if2 .left), c .before .before .before .before .before .before .before .before .before .before .before .before .before .if3 .left, c .before .before .before .if4 .left)
+returns-7 c = λ h. (fact-of _ _ _ _ _ _ _ _ _ _ _ _ (c .before .before .before .before .before .before .before .before .before .before .before .before .before .before .before .if2 .left) (reads-at _ _ _ _ _ _ _ _ _ _ _ _ (c .before .before .before .before .before .before .before .before .before .before .before .version .ensures) (c .before .before .before .before .before .before .before .before .before .before .before .before .code-of .ensures) (c .before .before .before .before .before .before .before .before .before .before .before .before .before .file-of .ensures) (c .before .before .before .before .before .before .before .before .before .before .wide32 .ensures .0) (read-at _ _ (c .before .before .before .before .before .before .before .before .before .decode .ensures) _ _ (c .before .before .before .before .before .before .before .i .given .1))) (rw (c .before .before .before .loader-of .ensures) at (c .before .before .fact-of .ensures (c .before .if5 .left))) _ (c .key-of .ensures .0), c .key-of .ensures .1, c .before .before .before .before .before .before .before .before .before .before .before .before .before .before .if3 .left, c .before .before .before .before .if4 .left)
 
 pub place-of-spec : {M : Type 1} → statement M
 place-of-spec =
@@ -120,9 +114,7 @@ place-of-spec =
     fact-of-requires
     nowhere-requires-6
     returns-6
-    mul-t22
-    add-t23
+    key-of-requires
+    cast-t23
     cast-t24
-    cast-t25
-    cast-t26
     returns-7)
