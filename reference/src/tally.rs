@@ -152,7 +152,7 @@ pub const REASONS: [Reason; 22] = [
     ("a newer last difference elsewhere", |found| found.rivals().any(|other| other.rows.iter().rev().gt(found.rows.iter().rev()))),
     ("a newer row elsewhere, not at the difference", |found| found.rivals().any(|other| other.rows.iter().max() > found.rows.iter().max())),
     ("a newer set of rows elsewhere", |found| found.rivals().any(|other| downward(&other.rows) > downward(&found.rows))),
-    ("a newer row in a longer one", |found| found.longer().any(|other| other.rows > found.rows)),
+    ("a newer row in a longer one", |found| found.longer().any(|other| other.rows[..found.rows.len()] > found.rows[..])),
     ("the newcomer only in longer ones", |found| {
         !found.ends_with_newcomer && found.rivals().all(|other| !other.ends_with_newcomer) && found.longer().any(|other| other.ends_with_newcomer)
     }),
