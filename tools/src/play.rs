@@ -227,9 +227,14 @@ impl<'a> Play<'a> {
         let done = match &doing.what {
             What::Old(what) => old.make(what, &self.lesson.names)?,
             _ => {
+                let before = self.outcome.store.clone();
                 let done = old.change_over(&mut self.outcome.store).ok_or("this build has no machine; use ./box")?;
                 let is_filled = done.told.as_ref().is_some_and(|told| told.number == 0);
                 self.origins.carry(is_filled.then(|| self.outcome.store.constraint_count()));
+                if is_filled && self.show.draw && !self.show.why {
+                    let title = format!("{}: {}", doing.said, done.answer);
+                    self.outcome.strip.add(&title, &before, &self.outcome.store, Default::default(), &self.lesson.names);
+                }
                 done
             }
         };

@@ -79,6 +79,8 @@ struct Made {
     answer: String,
     met: bool,
     unmet: bool,
+    /// Was a call of the old machine, or the changeover, refused?
+    carry_refused: bool,
     /// What the machines with a mistake say.
     wrong: Vec<String>,
 }
@@ -204,6 +206,7 @@ impl<'a> Recorder<'a> {
         made.met = !doing.expected.is_empty() && told.is_some_and(|told| doing.expected.iter().all(|expected| expected.is_met(&told)));
         made.unmet = !doing.expected.is_empty() && !made.met;
         self.calls += usize::from(told.is_some());
+        made.carry_refused = told.is_some_and(|told| told.number != 0);
         if let What::ChangeOver = doing.what {
             let is_filled = told.is_some_and(|told| told.number == 0);
             self.time.origins.carry(is_filled.then(|| self.time.store.constraint_count()));
@@ -245,6 +248,9 @@ impl<'a> Recorder<'a> {
             step.push(("rule", json::string(&quiz::rule(number, call))));
             self.ask(doing, (call, told), before, &made, &mut step);
             self.explain(call, told, &mut step);
+        }
+        if made.carry_refused {
+            step.push(("refused", "true".into()));
         }
         let wrong = self.lesson.mistakes.iter().zip(&made.wrong);
         step.push(("wrong", json::list(wrong.map(|(fault, answer)| json::strings([*fault, answer])))));
