@@ -134,7 +134,7 @@ fn by(call: &Call, store: &mut Store, list: &mut [u16], key: fn(&Store, &Plan, &
     })
 }
 
-/// A try that lists the newest chain of the least length among those that are looked at.
+/// A try that lists the newest chain of the least length among those that are looked at. One row is the same from both ends, and is looked at.
 fn among(
     call: &Call,
     store: &mut Store,
@@ -142,7 +142,7 @@ fn among(
     is_seen: fn(&Store, &Plan, &Rival) -> bool,
 ) -> Option<Reply> {
     relisted(call, store, list, |store, plan, chain| {
-        let seen = rivals(store, plan, chain.len()).into_iter().filter(|rival| is_seen(store, plan, rival));
+        let seen = rivals(store, plan, chain.len()).into_iter().filter(|rival| rival.rows.len() == 1 || is_seen(store, plan, rival));
         replace(chain, seen.max_by_key(|rival| rival.rows.clone()));
     })
 }
