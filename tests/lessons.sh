@@ -182,7 +182,7 @@ mistakes() {
         [ "$tried" -gt 0 ] || fail "no machine fails $lesson"
     done
     unbelieved examples/why-a-load-clashed.lesson a-chain-without-its-last-row the-chain-is-listed-downward rows-are-listed-by-table a-clash-yields-no-chain
-    unbelieved examples/the-shortest-reason.lesson a-longer-chain the-other-reading the-higher-row-at-the-first-difference the-lower-row-before-the-length
+    unbelieved examples/the-shortest-reason.lesson a-longer-chain the-other-reading the-lower-row-at-the-first-difference the-newer-row-before-the-length
     MIRROR_FAULT=desk-skips-the-verifier "$writer" check tools/tests/errors/unverified.check >"$work/out" 2>&1 && fail "a wrong desk is believed"
     grep -q "the desk says 0 and the second implementation 6" "$work/out" || fail "a wrong desk isn't named"
     unset LD_LIBRARY_PATH

@@ -15,9 +15,9 @@ TARIFF_LIB=$PWD/$built/release TARIFF_LINK=dylib=tariff cargo test --offline --r
 compare=$(sed -n 's|.*"executable":"\([^"]*/host-[^"]*\)".*|\1|p' "$work/built")
 [ -x "$compare" ] || { cat "$work/built"; echo "the comparison isn't built"; exit 1; }
 
-# all four tests, on seeds enough for every shape of damage; for a fault fewer will do
+# all five tests, on seeds enough for every shape of damage; for a fault fewer will do
 passes() {
-    TARIFF_SEEDS=120 "$compare" >"$work/said" 2>&1 && grep -q '^test result: ok\. 4 passed' "$work/said"
+    TARIFF_SEEDS=120 "$compare" >"$work/said" 2>&1 && grep -q '^test result: ok\. 5 passed' "$work/said"
 }
 passes || { cat "$work/said"; exit 1; }
 
@@ -37,6 +37,13 @@ for fault in $faults; do
     if [ -n "$reason" ] && ! grep -q "the changeover differs.*$reason" "$work/said"; then
         cat "$work/said"
         echo "seen for another reason: $fault"
+        exit 1
+    fi
+    # of a choice between chains, the purpose that it must be seen by
+    purpose=$(sed -n "s/^    (\"$fault\", \"\([^\"]*\)\",.*/\1/p" mirror/src/chosen.rs)
+    if [ -n "$purpose" ] && { MIRROR_FAULT=$fault "$compare" every_choice_is_the_one_written_down >"$work/said" 2>&1 || ! grep -q "^$purpose: differs" "$work/said"; }; then
+        cat "$work/said"
+        echo "not seen by '$purpose': $fault"
         exit 1
     fi
     echo "seen: $fault"

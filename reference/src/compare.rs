@@ -385,6 +385,17 @@ impl fmt::Display for Comparison {
     }
 }
 
+/// The choices of gen/clashes.rs for which the library lists other rows than are written down there, by their purposes.
+pub fn choices() -> Vec<String> {
+    let wrong = clashes::choices().into_iter().filter_map(|(what, mut store, load, rows)| {
+        let mut list = [UNLISTED; MOST_ROWS];
+        host::make(&load.tried(MOST_ROWS)?, &mut store, &mut [0; CELLS], &mut list);
+        let listed = list.split(|&row| row == UNLISTED).next().unwrap_or(&[]);
+        (listed != rows).then(|| format!("{what}: differs: it lists {listed:?}, not {rows:?}"))
+    });
+    wrong.collect()
+}
+
 /// What java/Rates.java prints, by the library: each of its pairs by a step, beside ours, and a divisor 0 stepped twice.
 pub fn rates() -> String {
     let [mut of_imul, mut of_idiv] = [op::IMUL, op::IDIV].map(|opcode| [rates::before(opcode), rates::before(opcode)]);

@@ -281,10 +281,11 @@ pub fn make(call: &Call, store: &mut Store, list: &mut [u16]) -> Reply {
     let fault = FAULTS.iter().chain(&mapped::FAULTS).chain(&rates::FAULTS).chain(&hidden::FAULTS).chain(&listed::FAULTS).chain(&shared::FAULTS).find(|fault| Some(fault.0) == chosen());
     // Those leave the list alone, so a try has none of them.
     let is_try = call.load().is_some();
-    let listing = tried::FAULTS.iter().chain(&chosen::FAULTS).chain(&taken::FAULTS).chain(&grouped::FAULTS).find(|fault| Some(fault.0) == chosen());
+    let listing = tried::FAULTS.iter().chain(&taken::FAULTS).chain(&grouped::FAULTS).find(|fault| Some(fault.0) == chosen()).map(|fault| fault.1);
+    let listing = listing.or_else(|| chosen().and_then(chosen::fault));
     let is_desks = DESKS.iter().any(|desk| Some(desk.0) == chosen());
     let is_there = fault.is_some() || listing.is_some() || slip().is_some() || is_desks || carried::FAULTS.iter().any(|fault| Some(fault.0) == chosen());
     assert!(is_there || chosen().is_none(), "no such fault");
-    let wrong = fault.filter(|_| !is_try).and_then(|fault| fault.1(call, store)).or_else(|| listing.and_then(|fault| fault.1(call, store, list)));
+    let wrong = fault.filter(|_| !is_try).and_then(|fault| fault.1(call, store)).or_else(|| listing.and_then(|fault| fault(call, store, list)));
     wrong.or_else(|| mapped::slipped(call, store, slip()?)).unwrap_or_else(|| call.apply_listing(store, list))
 }
