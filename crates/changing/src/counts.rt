@@ -20,16 +20,16 @@ fn cell_of(old_counts: &[u16], n: u16, i: usize) -> u16
     requires { ⌜ n ≤ tieLimit ⌝ }
     ensures { λ r. ⌜ r ≡ cellOf (now («old_counts» .entry)) n i ⌝ }
 {
-    if i < OWNERS_CELL {
-        return at16(old_counts, i);
-    }
     if i < TIE_NUMBERS_CELL {
+        if i < OWNERS_CELL {
+            return at16(old_counts, i);
+        }
         return QUOTE_OWNS;
     }
-    if i < SUBTYPE_NUMBERS_CELL {
-        return (i - TIE_NUMBERS_CELL) as u16;
-    }
     if i < LOADS_CELL {
+        if i < SUBTYPE_NUMBERS_CELL {
+            return (i - TIE_NUMBERS_CELL) as u16;
+        }
         return n + (i - SUBTYPE_NUMBERS_CELL) as u16;
     }
     0
