@@ -209,6 +209,11 @@ onRowCall rowSweep = sweepRows
 onRowCall (rowTry c n) = tryRows c n
 onRowCall rowTakeBack = takeBackRows
 
+-- a load as a call
+abbrev pub loadCall : Load → RowCall
+loadCall (loadDefine l bs) = rowDefine l bs
+loadCall (loadRecord l n c) = rowRecord l n c
+
 pub data Call : Type 0 where
   callBoot : Call
   callRows : RowCall → Call
