@@ -247,6 +247,14 @@ module _ (offers : List Load) (q : Request) where
     has : (js : List ℕ) → Works offers q r js → (is : List ℕ) × (orderOf offers q (length js) all r ≡ some is) × NotBefore lower-first js is
     has js w = has-order 0 all r js (rises-all (length offers) 0) (w .once) (among-all js w) (w .left) (w .accepted) (w .class) (w .cached)
 
+    -- nothing is needed if it is cached already
+    pub order-cached : (c : ℕ) → find (r .cache) q ≡ some c → order offers q r ≡ some []
+    unfolding order fewest
+    order-cached c h = rw (at-once, fewest) refl
+      where
+        at-once : orderOf offers q 0 all r ≡ some []
+        at-once = unfold orderOf in rw (h, orderOf) refl
+
     -- an order that is found works
     pub order-works : (is : List ℕ) → order offers q r ≡ some is → Works offers q r is
     unfolding order
