@@ -14,3 +14,4 @@ pub mod Share
 pub mod TakenBack
 pub mod Levels
 pub mod Groups
+pub mod Searches

@@ -14,6 +14,7 @@ pub mod Swept
 pub mod Misplaced
 pub mod Words
 pub mod Safety
+pub mod Searched
 pub mod Fields
 pub mod Passed
 pub mod Bits

@@ -200,19 +200,19 @@ module _ (l n : ℕ) (cells files : List ℕ) (box second : Tables) where
 
   -- by the three tests
 
-  abbrev sought-by : Option (List Load) → Searched
+  abbrev pub sought-by : Option (List Load) → Searched
   sought-by none = searched (deniedSearch (Word wordOffers)) second
   sought-by (some offers) = sought offers (order offers (at l n) (view box)) box
 
-  first-fails : (shaped second && not (broken box)) ≡ false → it ≡ searched (deniedSearch (Word wordBroken)) second
+  pub first-fails : (shaped second && not (broken box)) ≡ false → it ≡ searched (deniedSearch (Word wordBroken)) second
   unfolding search settled need _>>=_
   first-fails a = rw (a, search) refl
 
-  second-fails : (shaped second && not (broken box)) ≡ true → (ltb l loaderLimit && leb nameObject n) ≡ false → it ≡ searched (deniedSearch (Word wordUnknown)) second
+  pub second-fails : (shaped second && not (broken box)) ≡ true → (ltb l loaderLimit && leb nameObject n) ≡ false → it ≡ searched (deniedSearch (Word wordUnknown)) second
   unfolding search settled need _>>=_
   second-fails a b = rw (a, search) (rw b refl)
 
-  third : (shaped second && not (broken box)) ≡ true → (ltb l loaderLimit && leb nameObject n) ≡ true → (o : Option (List Load)) → offersIn cells files ≡ o → it ≡ sought-by o
+  pub third : (shaped second && not (broken box)) ≡ true → (ltb l loaderLimit && leb nameObject n) ≡ true → (o : Option (List Load)) → offersIn cells files ≡ o → it ≡ sought-by o
   unfolding search settled need take? _>>=_
   third a b none e = rw (a, search) (rw b (rw e refl))
   third a b (some offers) e = rw (a, search) (rw b (rw e refl))
