@@ -31,7 +31,7 @@ use Rattle.definition.specs.Computing.OnRows.{settle, onRows, performRows, perf
 use Rattle.definition.specs.Computing.Samples.{two, method, fileOf, plain, taker, lifts, ready, tied12}
 use Rattle.unbroken.specs.Searched.{sought-by, second-fails, third}
 use Rattle.unbroken.specs.OnRows.{Shows, accepted-shaped, same-booted, same-all}
-use Rattle.cases.specs.TakenBack.{leftOf, loads34, recorded!}
+use Rattle.cases.specs.TakenBack.{leftOf, loads34, recorded! }
 
 -- what goes before, the loader and the name that are wanted, the offers' cells and bytes, what is answered; and what the second store then has, as in `TakenBack`: classes,
 -- kept bytes, entries, ties, subtype constraints, loads that can be taken back, and the numbers of constraints. A refused search leaves it, whatever it holds: nothing is said.

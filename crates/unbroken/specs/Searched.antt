@@ -63,8 +63,7 @@ module _ (c : Load) (t : Tables) (r : Rows) (s : Shows t r) where
       go (refused w) e q d = absurd (Option·none-ne-some x q)
       go (ok g) e q d =
           let p : performRows (callRows (loadCall c)) r ≡ g = performed ∙ ap (settle Denied r) e in
-          let z : onRowCall (loadCall c) r ≡ ok g = ap (λ (f : Rows → Result (Given Reply)). f r) (load-rows c) ∙ e in
-          (
+          let z : onRowCall (loadCall c) r ≡ ok g = ap (λ (f : Rows → Result (Given Reply)). f r) (load-rows c) ∙ e in (
             ap numberOf (d .0 ∙ ap (λ (g : Given Reply). g .answer) p) ∙ zero-number (g .answer) (ok-at Taken _ (rows-taken (loadCall c) r) g z),
             subst (Shows (perform (callRows (loadCall c)) t .tables)) (ap (λ (g : Given Reply). g .rows) p ∙ Option·some-injective (g .rows) x q) (d .1),
           )
@@ -132,8 +131,7 @@ module _ (offers : List Load) where
       subst (λ (cs : List Call). All (λ a. numberOf a ≡ 0) (performAll cs t .answer)) e a in
       let y = answers-load (c .0) t r s (b .0) in
       let d = load-answers (c .0) t r s (y .0) (y .1) in
-      let g = goes-accepted is (perform (callRows (loadCall (c .0))) t .tables) (y .0) (d .1) (o .1) (b .1) in
-      (
+      let g = goes-accepted is (perform (callRows (loadCall (c .0))) t .tables) (y .0) (d .1) (o .1) (b .1) in (
         g .0,
         (y .0, some-bind (getElem? offers i) _ (c .1) (y .1), g .1),
         subst (λ (cs : List Call). Shows (performAll cs t .tables) (g .0)) (sym e) (g .2),
