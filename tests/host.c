@@ -47,7 +47,7 @@ static struct call each(int name)
     return calls[name];
 }
 
-/* Of tables full of ones boot writes the eight counts, that of loads and the two rows of Object, and nothing else: no owner, no level. */
+/* Of tables full of ones boot writes the eight counts, that of loads and the two rows of Object, and nothing else: no owner, no level, no group. */
 static void booting(void)
 {
     for (int i = 0; i < TABLES; i++)
@@ -118,6 +118,7 @@ static void damage(void)
         put_back(&first);
         set(COUNTS, t == TIES ? 3 : 4, 1);
         set(COUNTS, t == TIES ? TIE_NUMBERS : SUBTYPE_NUMBERS, 0);
+        set(COUNTS, GROUPS, 0);
         set(t, 0, 16);
         for (int name = 1; name < CALLS; name++)
             refuses("a constraint of loader 16", each(name), TARIFF_BROKEN);
@@ -217,10 +218,11 @@ static void tie_by_a_step(void)
     defines("its caller", define(2, 13, 2, 0, 1, CODE(0xBB, 0, 10, 0x01, 0xB6, 0, 10, 0, 20, 0, 12, 0, 1, 0xAC)), 2);
     accepts("a quote", start(TARIFF_QUOTE, 2, 13, 20, 7));
     set(0, TIE_NUMBERS, 77);
+    set(0, GROUPS, 77);
     keep(&first);
     expect("a call across loaders", run(9), 0, SIX(TARIFF_RAN_FOR, 0, TARIFF_FINISHED, TARIFF_QUOTE, 0, 5));
     check("its tie", ((uint16_t *)table[0])[3] == 1 && memcmp(table[4], tie, sizeof tie) == 0);
-    check("its tie's number", ((uint16_t *)table[0])[TIE_NUMBERS] == 0);
+    check("its tie's number and group", count_at(TIE_NUMBERS) == 0 && count_at(GROUPS) == 0);
     put_back(&first);
     defines("loader 1's 12", define(1, 12, 2, 0, 0, 0, NULL), 3);
     defines("loader 2's 12", define(2, 12, 2, 0, 0, 0, NULL), 4);
@@ -760,12 +762,14 @@ static void mixed_chains(void)
     put_back(&first);
     set(0, TIE_NUMBERS, 1);
     set(0, SUBTYPE_NUMBERS, 0);
+    set(0, GROUPS, 1);
     clashes("posted the other way round", define(2, 14, 2, 0, 0, 0, NULL), ROWS(0, 1));
     for (size_t row = 1; row < 256; row++) {
         set(0, TIE_NUMBERS + row, 65535);
         set(0, SUBTYPE_NUMBERS + row, 65535);
+        set(0, GROUPS + row, 65535);
     }
-    clashes("numbers of rows that aren't used", define(2, 14, 2, 0, 0, 0, NULL), ROWS(0, 1));
+    clashes("numbers and groups of rows that aren't used", define(2, 14, 2, 0, 0, 0, NULL), ROWS(0, 1));
 }
 
 /* A define posts its notes, then its ties, and both are numbered so. */
@@ -1021,6 +1025,7 @@ static void room_for_ties(void)
             set(4, 3 * i + 1, 2);
             set(4, 3 * i + 2, 1000 + i);
             set(0, TIE_NUMBERS + i, i);
+            set(0, GROUPS + i, i);
         }
         keep(&after);
         if (there <= 251)
@@ -1071,6 +1076,7 @@ static void longest_chain(void)
             set(5, 3 * i + k, below[k]);
         }
         set(0, TIE_NUMBERS + i, 2 * i);
+        set(0, GROUPS + i, 2 * i);
         set(0, SUBTYPE_NUMBERS + i, 2 * i + 1);
     }
     set(0, 3, 256);
@@ -1110,7 +1116,8 @@ static unsigned counted(const struct image *m, size_t cell)
     return value;
 }
 
-/* The latest load is taken back: of what it left, the first five counts and that of loads become those of that time, and no other cell. */
+/* The latest load is taken back: of what it left, the first five counts and that of loads become those of that time, and no other cell:
+   none of these loads joins groups that were there before. */
 static void takes_back(const char *what, const struct image *then)
 {
     accepts(what, take_back());
@@ -1369,6 +1376,100 @@ static void taking_back(void)
     damaged_uses();
 }
 
+/* Are these the groups of the first ties? */
+static int grouped(size_t ties, const uint16_t *group)
+{
+    for (size_t i = 0; i < ties; i++)
+        if (count_at(GROUPS + i) != group[i])
+            return 0;
+    return count_at(3) == ties;
+}
+
+#define GROUPED(...) sizeof((uint16_t[]){__VA_ARGS__}) / 2, (const uint16_t[]){__VA_ARGS__}
+
+/* Row 0 ties 12 between loaders 2 and 1, row 2 between 3 and 0, and row 1 is a note: two groups, of which loader 1's means class 3. Loader 3 knows loader 2's class. */
+static void two_groups(void)
+{
+    tied();
+    defines("a note", define(2, 15, 2, 0, 1, BELOW(14, 19)), 4);
+    defines("loader 0's method", define(0, 40, 2, 0, 12, ZERO), 5);
+    accepts("loader 3 asks for it", record(3, 40, 5));
+    defines("an override", define(3, 41, 40, 0, 12, ZERO), 6);
+    check("two groups, the second by its row", grouped(GROUPED(0, 2)));
+    accepts("loader 3 asks for loader 2's class", record(3, 13, 2));
+}
+
+/* A tie joins two groups under the lower number; taken back, it parts them, and the cell behind the ties stays as it was. */
+static void joined_and_parted(void)
+{
+    two_groups();
+    would("loader 0's own 12", define(0, 12, 2, 0, 0, 0, NULL), TARIFF_DEFINED, 7);
+    keep(&first);
+    for (int i = 0; i < 2; i++) {
+        set(0, GROUPS + 2, 65535);
+        defines("a tie of both", define(3, 18, 13, 0, 12, ZERO), 7);
+        check("joined", grouped(GROUPED(0, 0, 0)) && count_at(TIE_NUMBERS + 2) == 3);
+        clashes("across the join", define(0, 12, 2, 0, 0, 0, NULL), ROWS(0, 3, 2));
+        refuses("so it isn't loaded", define(0, 12, 2, 0, 0, 0, NULL), TARIFF_CLASH);
+        accepts("taken back", take_back());
+        keep(&after);
+        put_back(&before);
+        for (size_t cell = 0; cell < LEVEL; cell++)
+            set(0, cell, counted(&first, cell));
+        set(0, LOADS, counted(&first, LOADS));
+        set(0, GROUPS + 1, 2);
+        check("parted, and no other cell", same(&after) && grouped(GROUPED(0, 2)) && count_at(GROUPS + 2) == 0);
+    }
+    defines("loader 0's own 12", define(0, 12, 2, 0, 0, 0, NULL), 7);
+    refuses("two classes aren't joined", define(3, 18, 13, 0, 12, ZERO), TARIFF_CLASH);
+    check("the groups stay", grouped(GROUPED(0, 2)));
+    take_many(2);
+    accepts("the second tie", take_back());
+    check("one group, and the cell behind it stays", grouped(GROUPED(0)) && count_at(GROUPS + 1) == 2);
+}
+
+/* No call but boot takes these groups, of the ties that there are. */
+static void broken_groups(const char *what, size_t ties, const uint16_t *group)
+{
+    put_back(&first);
+    for (size_t i = 0; i < ties; i++)
+        set(0, GROUPS + i, group[i]);
+    for (int name = 1; name < CALLS; name++)
+        refuses(what, each(name), TARIFF_BROKEN);
+    accepts("groups booted", boot());
+}
+
+/* Groups that aren't exactly these. What stands behind the ties says nothing. */
+static void damaged_groups(void)
+{
+    two_groups();
+    accepts("closed", drop(TARIFF_QUOTE));
+    keep(&first);
+    broken_groups("one number for two groups", GROUPED(0, 0));
+    broken_groups("a row's place", GROUPED(0, 1));
+    broken_groups("a note's number", GROUPED(1, 2));
+    broken_groups("the other way round", GROUPED(2, 0));
+    broken_groups("a number that no row has", GROUPED(0, 3));
+    broken_groups("a number that is too large", GROUPED(0, 65535));
+    put_back(&first);
+    defines("a tie of both", define(3, 18, 13, 0, 12, ZERO), 7);
+    accepts("closed", drop(TARIFF_QUOTE));
+    keep(&first);
+    broken_groups("the higher number", GROUPED(2, 2, 2));
+    broken_groups("the last tie's number", GROUPED(3, 3, 3));
+    broken_groups("as before the join", GROUPED(0, 2, 0));
+    broken_groups("the tie that joins alone", GROUPED(0, 0, 3));
+    put_back(&first);
+    set(0, 3, 2);
+    for (int name = 1; name < CALLS; name++)
+        refuses("the groups of a tie that is gone", each(name), TARIFF_BROKEN);
+    put_back(&first);
+    for (size_t row = 3; row < 256; row++)
+        set(0, GROUPS + row, 65535);
+    expect("groups of rows that aren't used", step(), 0, SIX(TARIFF_STEPPED, 0, TARIFF_IDLE, 0, 0, 0));
+    accepts("and a load", record(4, 2, 0));
+}
+
 int main(void)
 {
     static const char *const names[] = {"boot", "define", "record", "start", "step", "run", "drop", "sweep", "take back", "try define", "try record", "check"};
@@ -1405,6 +1506,8 @@ int main(void)
     room_for_ties();
     trying();
     taking_back();
+    joined_and_parted();
+    damaged_groups();
     printf("host: bytes of stack:");
     for (int i = 0; i < MEASURED; i++) {
         printf(" %s %zu", names[i], deepest[i]);

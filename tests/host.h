@@ -37,6 +37,9 @@ enum { TIE_NUMBERS = 264, SUBTYPE_NUMBERS = 520 };
 /* Where the count of loads that can be taken back stands among them, and behind it their levels, of five cells each. */
 enum { LOADS = 776, TRACE = 777, LEVEL = 5, MOST_LOADS = 32 };
 
+/* Where the groups of ties stand among them. */
+enum { GROUPS = 937 };
+
 static const size_t width[] = {2, 2, 1, 2, 2, 2, 4, 4, 4, 2};
 static const size_t cells[] = {TARIFF_COUNTS, TARIFF_CLASSES, TARIFF_KEPT,   TARIFF_CACHE, TARIFF_TIES,
                                TARIFF_SUBTYPES, TARIFF_OBJECTS, TARIFF_FRAMES, TARIFF_ANSWER, TARIFF_LIST};

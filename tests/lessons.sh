@@ -1,6 +1,6 @@
 #!/usr/bin/env bash
 # The writer's tool: its own tests, the course's lessons on the proved machine, each mistake's lesson on a machine that makes it, the lessons
-# on dead objects, the report's share, choices, loops, rates, hidden fields and clashes on machines that do them wrongly, what ./box says of mistakes in a text, and any bytes for a
+# on dead objects, the report's share, groups of ties, choices, loops, rates, hidden fields and clashes on machines that do them wrongly, what ./box says of mistakes in a text, and any bytes for a
 # minute.
 #
 #   tests/lessons.sh                   all of it
@@ -140,6 +140,7 @@ mistakes() {
         [dead-objects]="sweep-(forgets-locals|forgets-the-report|frees-[a-z]+|tells-[a-z-]+)|freed-objects-count-for-full"
         [a-week-of-reports]="a-share-of-[a-z-]+|the-share-[a-z-]+|the-quotes-objects-are-counted|everyones-objects-are-counted|a-freed-row-is-still-counted|full-comes-before-the-share|a-task-without-frames-holds-nothing|new-asks-for-no-share"
         [taken-back]="a-(define|record)-isnt-remembered|(classes|entries|ties)-arent-cut|all-is-taken-back|a-taking-back-closes|nothing-to-take-back-is-accepted|an-idle-step-closes|a-run-of-nothing-closes|a-refused-(load|start)-closes|a-record-of-what-is-there-[a-z-]+|(start|drop|sweep|a-run)-doesnt-close|drop-[a-z-]+-doesnt-close|a-(sweep-that-frees-nothing|step-that-ran)-doesnt-close"
+        [groups-of-ties]="the-(higher-number-is-kept|new-ties-number-is-taken|(first|second)-end-alone-is-united|other-ties-of-a-group-stay|right-partition-under-another-number-is-right|cells-behind-the-groups-are-looked-at)|a-rows-place-for-its-number|each-tie-has-its-own-number|loaders-dont-count|a-(step-writes-its-tie|load-writes-its-ties)-and-no-group|groups-arent-made-anew-after-a-taking-back|a-refused-define-joins-groups|a-loads-own-ties-arent-in-its-groups|groups-are-(never-broken|compared-for-the-first-tie-alone)|one-number-for-two-groups-is-right|a-group-may-have-two-numbers|ties-that-are-gone-count-for-groups"
         [age-bands]="less-than-[a-z-]+|jumps-from-the-instruction|offsets-from-the-instruction|unmapped-is-unverified|unset-for-int"
         [instalments]="ifeq-[a-z-]+|a-jump-to-itself-is-stuck|sweep-forgets-unset-locals|a-set-local-stays-set"
         [rates]="quotients-are-[a-z]+|divide[sd]-[a-z-]+|the-least-by-[a-z-]+|zero-divisor-is-[a-z]+|a-refused-division-[a-z-]+|products-[a-z-]+|rates-in-version-one"

@@ -73,7 +73,7 @@ def in_a_terminal(box, folder):
     expects(talk.line('cancel'), 'box> ')
     expects(talk.line('loader 2 defines Discount expect accepted'), 'NO  loader 2 defines Discount', 'refused: 9, clash')
     expects(talk.line('why'), 'why: 1 row leads', 'posted by call 5: Brown.apply overrides Tariff.apply')
-    expects(talk.line('store'), 'tie 0: Discount is one class under loaders 2 and 1, row 0', 'class 3: Discount of loader 1')
+    expects(talk.line('store'), 'tie 0: Discount is one class under loaders 2 and 1, row 0, group 0', 'class 3: Discount of loader 1')
     expects(talk.line('undo'), 'taken back: loader 2 defines Discount')
     expects(talk.line('undo'), 'taken back: loader 1 defines Discount')
     expects(talk.line('loader 2 defines Discount'), 'defined: class 3')

@@ -1,7 +1,8 @@
-//! Ties, subtype constraints, and whether a store agrees.
+//! Ties, subtype constraints, and whether a store agrees: on ties by their groups.
 
 use crate::classes::Classes;
-use crate::store::{count, Store, INT, LIMITS};
+use crate::groups::Groups;
+use crate::store::{count, Store, INT, LIMITS, MOST_ROWS};
 
 /// What a call would add: a cache entry, ties and subtype constraints.
 #[derive(Default)]
@@ -31,7 +32,12 @@ impl Added<'_> {
         notes.chain(self.ties.iter().map(|&row| Constraint::Tie(row)))
     }
 
-    /// Writes the rows behind the used ones, each constraint with the next number.
+    /// The groups with these ties, which get the numbers behind those of the notes. The store isn't broken.
+    pub fn groups(&self, store: &Store) -> Groups {
+        Groups::read(store, self.ties, (store.constraint_count() + self.subtypes.len()) as u16)
+    }
+
+    /// Writes the rows behind the used ones, each constraint with the next number, and the groups with the ties.
     pub fn write(&self, store: &mut Store) {
         if let Some(entry) = self.entry {
             store.add_cached(entry);
@@ -78,10 +84,11 @@ pub fn key(loader: u16, name: u16) -> u32 {
     u32::from(loader) << 16 | u32::from(name)
 }
 
-/// The requests of cache and constraints, numbered, and joined where a chain of ties joins them.
+/// The requests of cache and constraints, numbered, and which of them have one group.
 struct Joined {
     requests: Vec<u32>,
-    up: Vec<u32>,
+    /// The first request of each one's group; a request that no tie names is tied to itself alone.
+    first: Vec<u32>,
 }
 
 impl Joined {
@@ -92,12 +99,13 @@ impl Joined {
         requests.extend(subtypes(store, added).flat_map(|[at, low, high]| [key(at, low), key(at, high)]));
         requests.sort_unstable();
         requests.dedup();
-        let mut joined = Joined { up: (0..requests.len() as u32).collect(), requests };
-        for [one, other, name] in ties(store, added) {
-            let (one, other) = (joined.group(one, name), joined.group(other, name));
-            joined.up[one] = other as u32;
-        }
-        joined
+        let groups = added.groups(store);
+        let mut of_group = [None; MOST_ROWS];
+        let first = requests.iter().zip(0..).map(|(&request, number)| match groups.of(request) {
+            Some(group) => *of_group[usize::from(group)].get_or_insert(number),
+            None => number,
+        });
+        Joined { first: first.collect(), requests }
     }
 
     /// The number of a request; every request of the store has one.
@@ -106,17 +114,12 @@ impl Joined {
     }
 
     /// The number that stands for all requests tied to this one.
-    fn group(&mut self, loader: u16, name: u16) -> usize {
-        let mut at = self.number(loader, name);
-        while self.up[at] as usize != at {
-            self.up[at] = self.up[self.up[at] as usize];
-            at = self.up[at] as usize;
-        }
-        at
+    fn group(&self, loader: u16, name: u16) -> usize {
+        self.first[self.number(loader, name)] as usize
     }
 
     /// The one class of each group; nothing if tied loaded requests mean two.
-    fn loaded(&mut self, store: &Store, added: &Added) -> Option<Vec<Option<u16>>> {
+    fn loaded(&self, store: &Store, added: &Added) -> Option<Vec<Option<u16>>> {
         let mut read = vec![false; self.requests.len()];
         let mut classes = vec![None; self.requests.len()];
         for [loader, name, class] in entries(store, added) {
@@ -139,7 +142,7 @@ struct Upward {
 }
 
 impl Upward {
-    fn new(joined: &mut Joined, store: &Store, added: &Added) -> Upward {
+    fn new(joined: &Joined, store: &Store, added: &Added) -> Upward {
         let edges: Vec<(usize, usize)> = subtypes(store, added)
             .map(|[at, low, high]| (joined.group(at, low), joined.group(at, high)))
             .collect();
@@ -178,13 +181,13 @@ impl Upward {
     }
 }
 
-/// Would the store agree with what is added? `classes` holds the new class, if the call defines one.
+/// Would the store, which isn't broken, agree with what is added? `classes` holds the new class, if the call defines one.
 pub fn agrees(store: &Store, added: &Added, classes: &Classes) -> bool {
-    let mut joined = Joined::new(store, added);
+    let joined = Joined::new(store, added);
     let Some(loaded) = joined.loaded(store, added) else {
         return false;
     };
-    let upward = Upward::new(&mut joined, store, added);
+    let upward = Upward::new(&joined, store, added);
     let (mut seen, mut left) = (vec![u32::MAX; loaded.len()], Vec::new());
     loaded.iter().enumerate().all(|(start, class)| match *class {
         Some(a) => upward.all(start as u32, &mut seen, &mut left, |group| {

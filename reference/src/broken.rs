@@ -1,6 +1,7 @@
 //! Word 1: are the tables a store at all?
 
 use crate::classes::Classes;
+use crate::groups::Groups;
 use crate::store::{cell, count, frame_base, Store, Value};
 use crate::store::{FRAME_ROW, FREE, LENGTHS, LIMITS, LOADERS, LOCALS, MOST_LOADS, OBJECT_ROW, OPERANDS, REPORT, SHARE, TASKS};
 
@@ -19,11 +20,16 @@ pub fn unbroken(store: &Store) -> Option<Classes> {
         return None;
     }
     let classes = fitting(store)?;
-    trace_fits(store).then_some(classes)
+    (groups_fit(store) && trace_fits(store)).then_some(classes)
+}
+
+/// Paper 11: "A store whose group numbers aren't exactly these counts as broken".
+fn groups_fit(store: &Store) -> bool {
+    store.groups() == Groups::made(store).cells()
 }
 
 /// Paper 10: "A stored trace of loads counts as broken if taking them back in turn would need rows that aren't there or leave a broken store."
-/// The latest is taken back first, each on what the one before left.
+/// The latest is taken back first, each on what the one before left. The groups of what is left would be made anew, so nothing is asked of them.
 fn trace_fits(store: &Store) -> bool {
     let levels = store.levels();
     if levels.is_empty() {
@@ -32,12 +38,12 @@ fn trace_fits(store: &Store) -> bool {
     let mut left = store.clone();
     levels.into_iter().rev().all(|level| {
         let is_there = level.iter().zip(left.level()).all(|(&rows, there)| rows <= there);
-        left.cut(level);
+        left.lower(level);
         is_there && fitting(&left).is_some()
     })
 }
 
-/// The classes of a store whose lengths and counts fit and that isn't broken, the trace of loads aside.
+/// The classes of a store whose lengths and counts fit and that isn't broken, groups and the trace of loads aside.
 fn fitting(store: &Store) -> Option<Classes> {
     let classes = Classes::read(store)?;
     let rows_fit = numbers_fit(store) && rows_fit(store, &classes);

@@ -17,6 +17,7 @@ use crate::gen::cells::each_cell;
 use crate::gen::files::file;
 use crate::gen::graphs::graphs;
 use crate::gen::hidden::hidden;
+use crate::gen::joins::{joined, joins};
 use crate::gen::limits::LIMITS;
 use crate::gen::list::list;
 use crate::gen::rng::Rng;
@@ -26,7 +27,7 @@ use crate::gen::shares::{shared, shares};
 use crate::gen::stuck::stuck;
 use crate::gen::swept::swept;
 use crate::gen::taken::{taken_back, taking};
-use crate::gen::{cases, counts, javas, large, listed, mapped, passed, traces, Call, Trial, CALLS};
+use crate::gen::{cases, counts, groups, javas, large, listed, mapped, passed, traces, Call, Trial, CALLS};
 use crate::host::{self, expected, CELLS};
 use crate::placed::misplaced;
 use crate::sharing::keeps_room;
@@ -40,7 +41,7 @@ const FILES: u64 = 40;
 const CLASHES: u64 = 12;
 
 /// What was compared so far.
-#[derive(Clone, Default)]
+#[derive(Clone)]
 pub struct Comparison {
     /// Calls of lists from a boot.
     pub booted: Tally,
@@ -55,6 +56,20 @@ pub struct Comparison {
     /// What the desk answered to so many files, by number.
     pub desk: [u64; 16],
     pub seeds: u64,
+}
+
+impl Default for Comparison {
+    fn default() -> Comparison {
+        Comparison {
+            booted: Tally::default(),
+            damaged: Tally::default(),
+            misshapen: [0; CALLS.len()],
+            shapes: [0; SHAPES.len()],
+            rebooted: 0,
+            desk: [0; 16],
+            seeds: 0,
+        }
+    }
 }
 
 /// The task whose turn it is, which a 'wanted' names; tables of a wrong length answer as if their cells were 0.
@@ -210,6 +225,7 @@ impl Comparison {
         self.play(&graphs(seed, 50), &format!("graphs {seed}"));
         self.play(&shared(seed, 30), &format!("shared {seed}"));
         self.play(&taking(seed, 30), &format!("taking {seed}"));
+        self.play(&joins(seed, 30), &format!("joins {seed}"));
         (STORES * seed..STORES * (seed + 1)).for_each(|seed| self.damage(seed));
         for seed in CLASHES * seed..CLASHES * (seed + 1) {
             let (store, load) = clash(seed);
@@ -221,10 +237,13 @@ impl Comparison {
 
     /// What needs no seed.
     fn fixed(&mut self) {
+        for (what, store, _) in groups::cases() {
+            [Call::TakeBack, Call::Step, Call::Sweep, Call::Record { loader: 4, name: 2, class: 0 }].iter().for_each(|call| drop(self.call(&store, call, CELLS, what)));
+        }
         for (what, store, _) in traces::cases() {
             [Call::TakeBack, Call::Step, Call::Sweep].iter().for_each(|call| drop(self.call(&store, call, CELLS, what)));
         }
-        for (at, trial) in cases::cases().iter().chain(&swept()).chain(&loops()).chain(&rates::rates()).chain(&hidden()).chain(&listed::listed()).chain(&shares()).chain(&taken_back()).enumerate() {
+        for (at, trial) in cases::cases().iter().chain(&swept()).chain(&loops()).chain(&rates::rates()).chain(&hidden()).chain(&listed::listed()).chain(&shares()).chain(&taken_back()).chain(&joined()).enumerate() {
             self.play(trial, &format!("case {at}"));
         }
         for seed in 0..4 {
@@ -278,7 +297,10 @@ impl Comparison {
             (open.clone(), large::usual_define()), (open.clone(), large::usual_record()), (open.clone(), Call::Step), (open, Call::TakeBack),
             (open_full.clone(), Call::Step), (open_full.clone(), Call::Sweep), (open_full, Call::TakeBack),
         ];
-        for (at, (store, call)) in calls.iter().chain(&reasons).chain(&swept).chain(&made).chain(&looping).chain(&long).chain(&taken).enumerate() {
+        let ((parted, joins), mut joined) = (large::joining(), large::joining().0);
+        joins.apply(&mut joined);
+        let grouped = [(parted, joins), (joined, Call::TakeBack), (large::joining_by_a_step(), Call::Step)];
+        for (at, (store, call)) in calls.iter().chain(&reasons).chain(&swept).chain(&made).chain(&looping).chain(&long).chain(&taken).chain(&grouped).enumerate() {
             self.call(store, call, CELLS, &format!("large store {at}"));
         }
     }
@@ -328,6 +350,7 @@ impl Comparison {
             demand(tally.hiding.unmet().is_empty(), format!("accesses {what} never met {:?}", tally.hiding.unmet()));
         }
         demand(self.booted.sharing.unmet().is_empty(), format!("starts and news from a boot never met {:?}", self.booted.sharing.unmet()));
+        demand(self.booted.grouping.unmet().is_empty(), format!("from a boot there were no {:?}", self.booted.grouping.unmet()));
         demand(self.booted.passing.unmet().is_empty(), format!("calls from a boot never met {:?}", self.booted.passing.unmet()));
         demand(self.booted.hiding.undone().is_empty(), format!("no define from a boot {:?}", self.booted.hiding.undone()));
         demand(self.misshapen.iter().all(|&calls| calls > 0), format!("calls on misshapen tables: {:?}", self.misshapen));

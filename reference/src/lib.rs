@@ -14,6 +14,8 @@ pub mod compare;
 pub mod drive;
 pub mod file;
 pub mod gen;
+pub mod grouping;
+pub mod groups;
 pub mod hidden;
 pub mod host;
 pub mod load;

@@ -1,6 +1,7 @@
 //! The store: eight lent tables, their lengths, limits, rows and values.
 
 use crate::file::File;
+use crate::groups::{join, Groups};
 
 /// The cells of `counts`.
 pub mod count {
@@ -22,12 +23,14 @@ pub mod count {
     pub const LOADS: usize = 776;
     /// The level of the oldest of these loads; those of the later ones follow.
     pub const LEVELS: usize = 777;
+    /// The group of tie row 0; those of the other tie rows follow.
+    pub const GROUPS: usize = 937;
 }
 
 /// The limit of each count.
 pub const LIMITS: [u16; 8] = [64, 16_384, 256, 256, 256, 256, 32, 32];
 /// The length of each table, in the order of `Store`.
-pub const LENGTHS: [usize; 8] = [937, 192, 16_384, 768, 768, 768, 8_448, 3_328];
+pub const LENGTHS: [usize; 8] = [1_193, 192, 16_384, 768, 768, 768, 8_448, 3_328];
 /// The tables' names, and the largest number that a cell holds.
 pub const TABLES: [(&str, u32); 8] = [
     ("counts", 0xFFFF), ("classes", 0xFFFF), ("kept", 0xFF), ("cache", 0xFFFF), ("ties", 0xFFFF), ("subtypes", 0xFFFF),
@@ -287,6 +290,23 @@ impl Store {
         &self.counts[count::SUBTYPE_NUMBERS..][..self.count(count::SUBTYPES)]
     }
 
+    /// The groups beside the used tie rows.
+    pub fn groups(&self) -> &[u16] {
+        &self.counts[count::GROUPS..][..self.count(count::TIES)]
+    }
+
+    /// The group of a request, which stands beside any tie that names it; nothing if none does.
+    pub fn group_of(&self, loader: u16, name: u16) -> Option<u16> {
+        let names = |row: [u16; 3]| row[..2].contains(&loader) && row[2] == name;
+        self.tie_rows().position(names).map(|row| self.groups()[row])
+    }
+
+    /// Makes the groups anew from the ties that are there. Cells past them stay.
+    pub fn regroup(&mut self) {
+        let made = Groups::made(self);
+        self.counts[count::GROUPS..].iter_mut().zip(made.cells()).for_each(|(cell, &group)| *cell = group);
+    }
+
     /// The counts that a load raises, as they are now.
     pub fn level(&self) -> Level {
         std::array::from_fn(|which| self.counts[which])
@@ -294,13 +314,13 @@ impl Store {
 
     /// The levels of the loads that can be taken back, the oldest first.
     pub fn levels(&self) -> Vec<Level> {
-        let rows = self.counts[count::LEVELS..].chunks_exact(LEVEL_ROW).take(self.count(count::LOADS));
+        let rows = self.counts[count::LEVELS..count::GROUPS].chunks_exact(LEVEL_ROW).take(self.count(count::LOADS));
         rows.map(|row| std::array::from_fn(|which| row[which])).collect()
     }
 
     /// Writes the levels of the loads that can be taken back, the oldest first: 32 at most.
     pub fn set_levels(&mut self, levels: &[Level]) {
-        let rows = self.counts[count::LEVELS..].chunks_exact_mut(LEVEL_ROW);
+        let rows = self.counts[count::LEVELS..count::GROUPS].chunks_exact_mut(LEVEL_ROW);
         rows.zip(levels).for_each(|(row, level)| row.copy_from_slice(level));
         self.counts[count::LOADS] = levels.len() as u16;
     }
@@ -318,9 +338,15 @@ impl Store {
         self.counts[count::LOADS] = 0;
     }
 
-    /// Lowers the counts to a level: the rows past them are there no more. Objects and frames stay.
-    pub fn cut(&mut self, level: Level) {
+    /// Lowers the counts to a level: the rows past them are there no more. Objects and frames stay, and so do the groups.
+    pub fn lower(&mut self, level: Level) {
         self.counts[..LEVEL_ROW].copy_from_slice(&level);
+    }
+
+    /// Lowers the counts to a level, and makes the groups of the ties that are left anew: a tie that goes may have joined older groups.
+    pub fn cut(&mut self, level: Level) {
+        self.lower(level);
+        self.regroup();
     }
 
     /// The class that the cache holds for a request; of two rows the lower.
@@ -386,10 +412,13 @@ impl Store {
         add_row(&mut self.cache, &mut self.counts[count::CACHE], row);
     }
 
-    /// Appends a tie, with the next number.
+    /// Appends a tie, with the next number. The groups that its two requests have become one, which is its own too.
     pub fn add_tie(&mut self, row: [u16; 3]) {
-        let at = count::TIE_NUMBERS + self.count(count::TIES);
-        self.counts[at] = self.constraint_count() as u16;
+        let (place, number) = (self.count(count::TIES), self.constraint_count() as u16);
+        let groups = [row[0], row[1]].map(|loader| self.group_of(loader, row[2]));
+        let group = join(&mut self.counts[count::GROUPS..][..place], groups, number);
+        self.counts[count::TIE_NUMBERS + place] = number;
+        self.counts[count::GROUPS + place] = group;
         add_row(&mut self.ties, &mut self.counts[count::TIES], row);
     }
 

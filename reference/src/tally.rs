@@ -9,6 +9,7 @@ use crate::code::op;
 use crate::gen::reach::{reached, Without, LEFT_OUT};
 use crate::gen::{Call, CALLS};
 use crate::hidden::Hiding;
+use crate::grouping::Grouping;
 use crate::passing::Passing;
 use crate::reason::chain;
 use crate::sharing::Sharing;
@@ -73,6 +74,8 @@ pub struct Tally {
     pub passing: Passing,
     /// What starts and news met of the report's share.
     pub sharing: Sharing,
+    /// What calls did to the groups of ties.
+    pub grouping: Grouping,
 }
 
 /// What a chain that breaks agreement may have, and the test for it.
@@ -206,6 +209,7 @@ impl Default for Tally {
             hiding: Hiding::default(),
             passing: Passing::default(),
             sharing: Sharing::default(),
+            grouping: Grouping::default(),
         }
     }
 }
@@ -242,6 +246,7 @@ impl Tally {
         self.words[call.kind()][number] += 1;
         self.hiding.count_define(before, call, reply);
         self.sharing.count(call, reply, after);
+        self.grouping.count(before, call, reply, after);
         match reply {
             Reply::Stepped(answer) => {
                 self.steps[ending(answer)] += 1;
@@ -312,6 +317,7 @@ impl Tally {
         self.hiding.add(&other.hiding);
         self.passing.add(&other.passing);
         self.sharing.add(&other.sharing);
+        self.grouping.add(&other.grouping);
     }
 
     /// The words given to a call, by number; 0 is accepted.
@@ -371,7 +377,7 @@ impl fmt::Display for Tally {
         for ((what, _), chains) in REASONS.iter().zip(self.reasons) {
             writeln!(f, "   chains with {what:<46}{chains:>8}")?;
         }
-        write!(f, "{}{}{}", self.hiding, self.passing, self.sharing)?;
+        write!(f, "{}{}{}{}", self.hiding, self.passing, self.sharing, self.grouping)?;
         writeln!(f, "   objects freed{:>33}\n   objects in freed rows{:>25}", self.freed, self.reused)?;
         writeln!(f, "   runs of 1,000 steps and more{:>18}", self.long_runs)
     }

@@ -202,7 +202,8 @@ fn rows() {
         s.counts[11..264].fill(u16::MAX);
         s.counts[264 + 1..520].fill(u16::MAX);
         s.counts[520 + 1..776].fill(u16::MAX);
-        s.counts[777..].fill(u16::MAX);
+        s.counts[777..937].fill(u16::MAX);
+        s.counts[937 + 1..].fill(u16::MAX);
         s.frames[2 * 52..32 * 52].fill(u32::MAX);
         s.frames[33 * 52..].fill(u32::MAX);
     });

@@ -6,6 +6,7 @@ use reference::broken::unbroken;
 use reference::gen::chains::chains;
 use reference::gen::graphs::graphs;
 use reference::gen::hidden::hidden;
+use reference::gen::joins::{joined, joins};
 use reference::gen::limits::LIMITS;
 use reference::gen::list::list;
 use reference::gen::listed::listed;
@@ -129,15 +130,19 @@ fn random_lists() {
         watch(&trial, &format!("graphs {seed}"), &mut tally);
         amid_noise(seed, &trial);
         watch(&taking(seed, 30), &format!("taking {seed}"), &mut tally);
+        let trial = joins(seed, 30);
+        watch(&trial, &format!("joins {seed}"), &mut tally);
+        amid_noise(seed, &trial);
         let trial = shared(seed, 30);
         watch(&trial, &format!("shared {seed}"), &mut tally);
         amid_noise(seed, &trial);
     }
-    println!("{SEEDS} random lists, as many about constraints, about objects and about the report's share\n{tally}");
+    println!("{SEEDS} random lists, as many about constraints, about objects, about the report's share, about takings back and about groups\n{tally}");
     assert_eq!(tally.unswept(), Vec::<&str>::new(), "what sweeps never had");
     assert_eq!(tally.hiding.unmet(), Vec::<&str>::new(), "what accesses never met");
     assert_eq!(tally.sharing.unmet(), Vec::<&str>::new(), "what starts and news never met");
-    for trial in cases::cases().iter().chain(&swept()).chain(&loops()).chain(&rates()).chain(&hidden()).chain(&listed()).chain(&shares()).chain(&taken_back()) {
+    assert_eq!(tally.grouping.unmet(), Vec::<&str>::new(), "what calls never did to groups");
+    for trial in cases::cases().iter().chain(&swept()).chain(&loops()).chain(&rates()).chain(&hidden()).chain(&listed()).chain(&shares()).chain(&taken_back()).chain(&joined()) {
         watch(trial, "a case", &mut tally);
     }
     for (name, limit) in LIMITS {

@@ -20,7 +20,8 @@ fn read(store: &Store) -> Store {
     read.subtypes[used(count::SUBTYPES) * ROW..].fill(0);
     read.counts[count::OWNERS + used(count::OBJECTS)..count::OWNERS + MOST_OBJECTS].fill(0);
     read.counts[count::TIE_NUMBERS + used(count::TIES)..count::SUBTYPE_NUMBERS].fill(0);
-    read.counts[count::SUBTYPE_NUMBERS + used(count::SUBTYPES)..].fill(0);
+    read.counts[count::SUBTYPE_NUMBERS + used(count::SUBTYPES)..count::GROUPS].fill(0);
+    read.counts[count::GROUPS + used(count::TIES)..].fill(0);
     read
 }
 

@@ -317,6 +317,7 @@ fn wrong_numbers_are_broken() {
         }
         let way = rng.below(WRONG.len());
         WRONG[way].1(&mut rng, &mut store);
+        store.regroup();
         assert_eq!(broken(&store), !is_right(&store), "store {seed}, {}", WRONG[way].0);
         seen[way][usize::from(broken(&store))] += 1;
     }

@@ -102,8 +102,8 @@ fn rows(store: &Store, classes: &Classes, names: &Names) -> Vec<Row> {
     for (place, [loader, name, class]) in store.cache_rows().enumerate() {
         add("cache", place, format!("{} means class {class} by {}", names.loader(loader), names.class(name)));
     }
-    for ((place, [one, other, name]), row) in store.tie_rows().enumerate().zip(store.tie_numbers()) {
-        add("tie", place, format!("{} is one class under {}, row {row}", names.class(name), names.loaders(one, other)));
+    for ((place, [one, other, name]), (row, group)) in store.tie_rows().enumerate().zip(store.tie_numbers().iter().zip(store.groups())) {
+        add("tie", place, format!("{} is one class under {}, row {row}, group {group}", names.class(name), names.loaders(one, other)));
     }
     for ((place, [loader, lower, higher]), row) in store.subtype_rows().enumerate().zip(store.subtype_numbers()) {
         let (loader, lower, higher) = (names.loader(loader), names.class(lower), names.class(higher));

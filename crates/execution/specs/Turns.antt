@@ -43,13 +43,19 @@ abbrev pub regroupedBy : List Tie → List ℕ → List ℕ → List ℕ
 regroupedBy [] i x = x
 regroupedBy (u ∷ us) i x = regrouped x i (getD x countTies 0)
 
-pub regrouped-not : (us : List Tie) (i x : List ℕ) → length us ≡ 0 → x ≡ regroupedBy us i x
-regrouped-not [] i x e = refl
-regrouped-not (u ∷ us) i x e = absurd (omega arith)
+regroups-not : (us : List Tie) (i x : List ℕ) → length us ≡ 0 → x ≡ regroupedBy us i x
+regroups-not [] i x e = refl
+regroups-not (u ∷ us) i x e = absurd (omega arith)
 
-pub regrouped-on : (us : List Tie) (i x : List ℕ) → (length us ≡ 0 → ⊥) → regrouped x i (getD x countTies 0) ≡ regroupedBy us i x
-regrouped-on [] i x e = absurd (e refl)
-regrouped-on (u ∷ us) i x e = refl
+regroups-on : (us : List Tie) (i x : List ℕ) → (length us ≡ 0 → ⊥) → regrouped x i (getD x countTies 0) ≡ regroupedBy us i x
+regroups-on [] i x e = absurd (e refl)
+regroups-on (u ∷ us) i x e = refl
+
+pub regrouped-not : (p : Posting) (i x : List ℕ) → length (toPost p) ≡ 0 → x ≡ regroupedBy (toPost p) i x
+regrouped-not p i x e = regroups-not (toPost p) i x e
+
+pub regrouped-on : (p : Posting) (i x : List ℕ) → (length (toPost p) ≡ 0 → ⊥) → regrouped x i (getD x countTies 0) ≡ regroupedBy (toPost p) i x
+regrouped-on p i x e = regroups-on (toPost p) i x e
 
 -- task k's step, with m frames below its top frame, where B gives the classes
 unfoldable pub taken : Base → Tables → ℕ → ℕ → Done Answer

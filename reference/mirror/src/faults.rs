@@ -16,7 +16,7 @@ use reference::{step, Answer, Refusal, Reply, Store};
 
 use crate::judged::{agrees, Judge};
 use crate::made::{post, write};
-use crate::{chosen, hidden, listed, mapped, rates, shared, swept, taken, tried};
+use crate::{chosen, grouped, hidden, listed, mapped, rates, shared, swept, taken, tried};
 
 /// The name of the fault and the calls that have it.
 pub type Fault = (&'static str, fn(&Call, &mut Store) -> Option<Reply>);
@@ -111,6 +111,7 @@ const FAULTS: [Fault; 44] = [
         let reply = call.apply(store);
         if let (Reply::Defined(_), Some(ties)) = (reply, ties) {
             store.counts[count::TIES] = ties;
+            store.regroup();
         }
         Some(reply)
     }),
@@ -274,7 +275,7 @@ pub fn make(call: &Call, store: &mut Store, list: &mut [u16]) -> Reply {
     let fault = FAULTS.iter().chain(&mapped::FAULTS).chain(&rates::FAULTS).chain(&hidden::FAULTS).chain(&listed::FAULTS).chain(&shared::FAULTS).find(|fault| Some(fault.0) == chosen());
     // Those leave the list alone, so a try has none of them.
     let is_try = call.load().is_some();
-    let listing = tried::FAULTS.iter().chain(&chosen::FAULTS).chain(&taken::FAULTS).find(|fault| Some(fault.0) == chosen());
+    let listing = tried::FAULTS.iter().chain(&chosen::FAULTS).chain(&taken::FAULTS).chain(&grouped::FAULTS).find(|fault| Some(fault.0) == chosen());
     let is_desks = DESKS.iter().any(|desk| Some(desk.0) == chosen());
     let is_there = fault.is_some() || listing.is_some() || slip().is_some() || is_desks;
     assert!(is_there || chosen().is_none(), "no such fault");

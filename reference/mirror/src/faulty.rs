@@ -2,6 +2,7 @@
 
 mod chosen;
 pub mod faults;
+mod grouped;
 mod hidden;
 mod judged;
 mod listed;

@@ -26,6 +26,7 @@ pub const FAULTS: [Fault; 13] = [
             let answer = take_step(store, classes);
             if let (Some(access), Answer::Ran(_)) = (access, answer) {
                 store.counts[count::TIES] = before as u16;
+                store.regroup();
                 tie_to(store, &access, access.fields[from_the_objects_class(&access)].class);
             }
             answer

@@ -204,6 +204,7 @@ fn rewrite(store: &mut Store, before: usize, signature: Signature, change: fn(Si
     let mut rows: Vec<[u16; 3]> = store.tie_rows().skip(before).collect();
     change(signature, &mut rows);
     store.counts[count::TIES] = before as u16;
+    store.regroup();
     rows.into_iter().for_each(|row| store.add_tie(row));
 }
 

@@ -152,7 +152,7 @@ pub const FAULTS: [Listing; 45] = [
 ];
 
 /// The right call, and then something to the store, by the store before, the call and its reply.
-fn then(call: &Call, store: &mut Store, list: &mut [u16], change: impl Fn(&Store, &mut Store, &Call, Reply)) -> Option<Reply> {
+pub fn then(call: &Call, store: &mut Store, list: &mut [u16], change: impl Fn(&Store, &mut Store, &Call, Reply)) -> Option<Reply> {
     let before = store.clone();
     let reply = call.apply_listing(store, list);
     let is_read = *call == Call::Boot && reply == Reply::Accepted || lengths_fit(&before) && !broken(&before);
@@ -171,7 +171,7 @@ fn is_there(before: &Store, store: &Store, call: &Call, reply: Reply) -> bool {
 fn unremembered(call: &Call, store: &mut Store, list: &mut [u16], is_it: fn(&Call) -> bool) -> Option<Reply> {
     then(call, store, list, |before, store, call, reply| {
         if is_it(call) && reply.refusal().is_none() {
-            store.counts[count::LOADS..].copy_from_slice(&before.counts[count::LOADS..]);
+            store.counts[count::LOADS..count::GROUPS].copy_from_slice(&before.counts[count::LOADS..count::GROUPS]);
         }
     })
 }
@@ -183,7 +183,7 @@ fn loading(call: &Call, store: &mut Store, list: &mut [u16], remember: fn(&mut V
             let mut levels = before.levels();
             remember(&mut levels, before.level());
             levels.truncate(MOST_LOADS);
-            store.counts[count::LOADS..].copy_from_slice(&before.counts[count::LOADS..]);
+            store.counts[count::LOADS..count::GROUPS].copy_from_slice(&before.counts[count::LOADS..count::GROUPS]);
             store.set_levels(&levels);
         }
     })

@@ -7,7 +7,7 @@
 use std::time::{Duration, Instant};
 
 use reference::gen::large::{
-    chain, chain_clashes, chain_define, chain_record, empty, full, full_remembering, grid, grid_reason, grid_record, long_files, longest_reason, looping, making, objects, posting, remembering, tall_tree,
+    chain, chain_clashes, chain_define, chain_record, empty, full, full_remembering, grid, grid_reason, grid_record, joining, joining_by_a_step, long_files, longest_reason, looping, making, objects, posting, remembering, tall_tree,
     tree, tree_of_three, usual, usual_define, usual_record, Held, Repeated, Round,
 };
 use reference::gen::{Call, Trial};
@@ -220,6 +220,24 @@ fn takings() -> Vec<Case> {
     all
 }
 
+/// Idle steps, which look at the groups, on few and many ties; a load and a step that join two groups of 28 ties each among 224, and the load taken back.
+fn groups() -> Vec<Case> {
+    let (store, define) = joining();
+    let mut after = store.clone();
+    define.apply(&mut after);
+    let idle = |what: &str, store: Store| Case { times: Some(2_000), ..Case::steps(&format!("idle step, {what}"), store) };
+    vec![
+        idle("12 ties of 4 names", usual()),
+        idle("256 ties of 16 names", grid()),
+        idle("256 ties of 256 names", chain(256, 256)),
+        idle("224 ties of 4 names", store.clone()),
+        Case::new("record, 224 ties of 4 names", store.clone(), Call::Record { loader: 9, name: 2, class: 0 }),
+        Case::new("define that joins two groups", store, define),
+        Case::new("take back of that define", after, Call::TakeBack),
+        Case { times: Some(1), ..Case::new("getfield that joins two groups", joining_by_a_step(), Call::Step) },
+    ]
+}
+
 /// How the cost grows: entries after the call, and ties, with as many subtype constraints.
 fn growth() -> Vec<Case> {
     let mut all = Vec::new();
@@ -253,10 +271,10 @@ fn profile(side: &str, name: &str) {
 }
 
 /// Every table with its cases.
-fn tables() -> [(&'static str, Vec<Case>); 8] {
+fn tables() -> [(&'static str, Vec<Case>); 9] {
     [
         ("run", runs()), ("step", steps()), ("sweep of 256 objects", sweeps()), ("record and define", loads()), ("tries", tries()),
-        ("loads taken back", takings()), ("define of 4,096 bytes", long_defines()), ("record, one chain", growth()),
+        ("loads taken back", takings()), ("groups of ties", groups()), ("define of 4,096 bytes", long_defines()), ("record, one chain", growth()),
     ]
 }
 

@@ -14,8 +14,9 @@ fn ranges(store: &Store) -> [Vec<usize>; 8] {
     let numbers = |first: usize, which: usize| first - 1..=first + store.count(which);
     let ties = numbers(count::TIE_NUMBERS, count::TIES);
     let counts = (0..=count::OWNERS + store.count(count::OBJECTS)).chain(ties).chain(numbers(count::SUBTYPE_NUMBERS, count::SUBTYPES));
+    let groups = numbers(count::GROUPS, count::TIES);
     [
-        counts.chain([LENGTHS[0] - 1]).collect(),
+        counts.chain(groups).chain([LENGTHS[0] - 1]).collect(),
         rows(count::CLASSES, ROW),
         (0..store.count(count::KEPT) + 2).collect(),
         rows(count::CACHE, ROW),

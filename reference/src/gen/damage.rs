@@ -4,11 +4,12 @@ use super::blueprint::Blueprint;
 use super::build::{Code, Draft};
 use super::cases::{self, MAIN};
 use super::graphs::graphs;
+use super::groups::{self, has_wrong_groups, wrong_groups};
 use super::hides::hidden_fields;
 use super::large;
 use super::list::busy_list;
 use super::loops::{spinning, unset_at_a_join, waiting};
-use super::numbers::{has_wrong_numbers, renumber, wrong_numbers};
+use super::numbers::{can_be_mended, has_wrong_numbers, renumber, wrong_numbers};
 use super::objects::{a_share, all_in_use, an_owner, free_rows, is_past_the_share, links, many_objects, unused_number};
 use super::rng::Rng;
 use super::traces::{a_trace, closed, has_wrong_trace, wrongs_in_turn, Wrong};
@@ -31,7 +32,7 @@ const KINDS: [fn(&mut Rng, &mut Store); 42] = [
 pub type Shape = (&'static str, fn(&Store) -> bool);
 
 /// What damaged stores must have among them.
-pub const SHAPES: [Shape; 27] = [
+pub const SHAPES: [Shape; 37] = [
     ("a class of more than 16 fields", |store| classes(store).iter().any(|&class| field_names(store, class).len() > FIELDS)),
     ("a field's name repeated below", |store| has_repeated_field(store, 2)),
     ("a field's name in three classes", |store| has_repeated_field(store, 3)),
@@ -61,11 +62,30 @@ pub const SHAPES: [Shape; 27] = [
     ("constraints numbered in turn", |store| {
         is_whole(store) && store.tie_numbers().first() > Some(&0) && store.subtype_numbers().last() < store.tie_numbers().last()
     }),
+    ("wrong groups, and nothing else", has_wrong_groups),
+    ("the right groups under other numbers", |store| groups::is_wrong(store, groups::Wrong::Numbers)),
+    ("the right groups under other numbers of their own", |store| groups::is_wrong(store, groups::Wrong::OwnNumbers)),
+    ("one number for two groups", |store| groups::is_wrong(store, groups::Wrong::Joined)),
+    ("two numbers for one group", |store| groups::is_wrong(store, groups::Wrong::Split)),
+    ("a subtype constraint's number for a group", |store| groups::is_wrong(store, groups::Wrong::Subtypes)),
+    ("groups with ties that are gone", |store| groups::is_wrong(store, groups::Wrong::Gone)),
+    ("wrong groups, but not the first tie's", |store| groups::is_wrong(store, groups::Wrong::ButFirst)),
+    ("groups of three ties under a number that isn't the row's place", |store| is_whole(store) && has_a_group_of_three(store)),
+    ("other cells behind the groups", |store| is_whole(store) && store.counts[count::GROUPS + store.count(count::TIES)..].iter().any(|&cell| cell > 600)),
 ];
 
 /// Is the trace wrong for this alone, where nothing else is?
 fn is_wrong(store: &Store, wrongs: &[Wrong]) -> bool {
     has_wrong_trace(store) && store.count(count::LOADS) <= MOST_LOADS && wrongs_in_turn(store) == wrongs
+}
+
+/// Has a group three ties, under a number that isn't the place of its row?
+fn has_a_group_of_three(store: &Store) -> bool {
+    let is_such = |(&group, place): (&u16, usize)| {
+        let ties = store.groups().iter().filter(|&&other| other == group).count();
+        store.tie_numbers()[place] == group && usize::from(group) != place && ties >= 3
+    };
+    store.groups().iter().zip(0..).any(is_such)
 }
 
 /// A store from a boot with some damage, from one change to three.
@@ -80,12 +100,18 @@ pub fn damaged(seed: u64) -> Store {
         let kind = rng.below(KINDS.len());
         KINDS[kind](&mut rng, &mut store);
     }
-    // Counts that were changed leave rows without a number of their own; mostly they get one.
-    if has_wrong_numbers(&store) && rng.percent(90) {
+    // Rows that were changed leave groups that aren't theirs, and counts rows without a number of their own; mostly they get them.
+    if has_wrong_groups(&store) && rng.percent(90) {
+        store.regroup();
+    }
+    if can_be_mended(&store) && rng.percent(90) {
         renumber(&mut rng, &mut store);
     }
     if rng.percent(4) {
         wrong_numbers(&mut rng, &mut store);
+    }
+    if rng.percent(12) {
+        wrong_groups(&mut rng, &mut store);
     }
     store
 }

@@ -4,6 +4,7 @@ use super::build::{Code, Draft};
 use super::cases::{self, MAIN};
 use super::chains::chains;
 use super::graphs::graphs;
+use super::joins::joins;
 use super::list::list;
 use super::listed;
 use super::rng::Rng;
@@ -153,11 +154,12 @@ pub fn fixed() -> Vec<u8> {
 pub fn drive(seed: u64) -> Vec<u8> {
     let mut rng = Rng::new(seed ^ 0x64_72_69_76);
     let length = rng.within(5, 90);
-    let trial = match rng.weighted(&[4, 2, 14, 2, 2]) {
+    let trial = match rng.weighted(&[4, 2, 14, 2, 3, 2]) {
         0 => list(seed, length),
         1 => graphs(seed, length),
         2 => chains(seed, length / 2),
         3 => shared(seed, length / 2),
+        4 => joins(seed, length / 3),
         _ => taking(seed, length / 3),
     };
     let mut calls = trying(&trial, &mut rng);

@@ -123,6 +123,39 @@ pub fn posting() -> Store {
     trial.store
 }
 
+/// Eight groups: four names, each tied by every pair of loaders 0 to 7 and by every pair of 8 to 15, which makes 224 ties; and loader 8's class 50, known to
+/// loader 7. The define joins the two groups of the first name.
+pub fn joining() -> (Store, Call) {
+    let mut trial = Trial::ready([7, 8]);
+    let poster = |name: u16| Draft::new(name).method(ROOT, CHAIN, INT, &Code::new().end(INT));
+    trial.define(8, &poster(50).field(30, CHAIN));
+    trial.record(7, 50, 1);
+    let mut store = trial.store;
+    add_groups(&mut store);
+    store.close();
+    (store, Call::Define { loader: 7, file: poster(51).under(50).file() })
+}
+
+/// The same eight groups, and the quote before a getfield whose tie joins two of them.
+pub fn joining_by_a_step() -> Store {
+    let mut store = joining().0;
+    let code = Code::new().object(50).getfield(50, 30, CHAIN).pop().iload(1).ireturn();
+    let file = Draft::new(51).main(ROOT, &code).file();
+    crate::define(&mut store, 7, &file);
+    crate::start(&mut store, 0, 7, 51, ROOT, 3);
+    crate::step(&mut store);
+    store
+}
+
+fn add_groups(store: &mut Store) {
+    for name in CHAIN..CHAIN + 4 {
+        for (first, last) in [(0, 8), (8, 16)] {
+            (first..last).for_each(|one| (one + 1..last).for_each(|other| store.add_tie([one, other, name])));
+        }
+        store.add_subtype([0, name, name + 1]);
+    }
+}
+
 /// The call that loads the first request of a chain by a class of its own.
 pub fn chain_define() -> Call {
     Call::Define { loader: 0, file: Draft::new(CHAIN).file() }
@@ -480,6 +513,23 @@ mod tests {
         assert_eq!(last(&usual), [30, 12, 8]);
         assert!(matches!(usual_define().apply(&mut usual.clone()), Reply::Defined(_)));
         assert_eq!(usual_record().apply(&mut usual), Reply::Accepted);
+    }
+
+    #[test]
+    fn groups_are_joined_and_parted() {
+        let different = |store: &Store| store.groups().iter().collect::<std::collections::BTreeSet<_>>().len();
+        let (store, define) = joining();
+        sound(&store, "joining");
+        assert_eq!((store.count(count::TIES), different(&store)), (224, 8));
+        let mut after = store.clone();
+        assert_eq!(define.apply(&mut after), Reply::Defined(2));
+        assert_eq!((after.count(count::TIES), different(&after)), (225, 7));
+        assert_eq!(crate::take_back(&mut after), Reply::Accepted);
+        assert_eq!(different(&after), 8);
+        let mut stepped = joining_by_a_step();
+        sound(&stepped, "joining by a step");
+        assert_eq!(crate::step(&mut stepped), Answer::Ran(0));
+        assert_eq!((stepped.count(count::TIES), different(&stepped)), (225, 7));
     }
 
     #[test]

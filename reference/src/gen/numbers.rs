@@ -1,6 +1,7 @@
 //! The numbers of constraints: made right for rows that nobody posted, and made wrong.
 
 use super::damage::is_whole;
+use super::groups::regrouped;
 use super::rng::Rng;
 use crate::store::{count, Store, LENGTHS, LIMITS, MOST_ROWS};
 
@@ -9,7 +10,7 @@ pub fn has_numbers(store: &Store) -> bool {
     store.counts.len() == LENGTHS[0] && [count::TIES, count::SUBTYPES].iter().all(|&which| store.counts[which] <= LIMITS[which])
 }
 
-/// Numbers the used rows as if they had been posted in some order, each table's own kept.
+/// Numbers the used rows as if they had been posted in some order, each table's own kept, and groups the ties by these numbers.
 pub fn renumber(rng: &mut Rng, store: &mut Store) {
     if !has_numbers(store) {
         return;
@@ -22,6 +23,7 @@ pub fn renumber(rng: &mut Rng, store: &mut Store) {
         store.counts[first + *next] = number;
         *next += 1;
     }
+    store.regroup();
 }
 
 /// The cells of the used rows' numbers.
@@ -61,11 +63,17 @@ pub const WRONG: [(&str, fn(&mut Rng, &mut Store)); 5] = [
 pub fn wrong_numbers(rng: &mut Rng, store: &mut Store) {
     if is_whole(store) && store.constraint_count() > 0 {
         WRONG[rng.below(WRONG.len())].1(rng, store);
+        store.regroup();
     }
 }
 
-/// Is the store broken by its numbers alone?
+/// Is the store broken by its numbers alone? The groups are those by these numbers.
 pub fn has_wrong_numbers(store: &Store) -> bool {
+    has_numbers(store) && *store == regrouped(store) && can_be_mended(store)
+}
+
+/// Is the store broken by its numbers and groups alone?
+pub fn can_be_mended(store: &Store) -> bool {
     let mut mended = store.clone();
     renumber(&mut Rng::new(0), &mut mended);
     crate::broken(store) && !crate::broken(&mended)

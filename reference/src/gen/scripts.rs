@@ -1,5 +1,6 @@
 //! Scripts for boxscript: the calls of random lists as lines, now and then with one that can't be read.
 
+use super::joins::joins;
 use super::list::list;
 use super::rng::Rng;
 use super::Call;
@@ -7,8 +8,8 @@ use super::Call;
 /// The bytes of a script.
 pub fn script(seed: u64) -> Vec<u8> {
     let mut rng = Rng::new(seed ^ 0x73_63_72_69);
-    let mut lines: Vec<Vec<u8>> =
-        list(seed, 80).calls.iter().flat_map(|call| lines(&mut rng, call)).map(String::into_bytes).collect();
+    let trial = if seed % 6 == 5 { joins(seed, 25) } else { list(seed, 80) };
+    let mut lines: Vec<Vec<u8>> = trial.calls.iter().flat_map(|call| lines(&mut rng, call)).map(String::into_bytes).collect();
     if rng.percent(40) {
         let at = rng.below(lines.len() + 1);
         let odd = odd_line(&mut rng, lines.get(at).cloned().unwrap_or_default());

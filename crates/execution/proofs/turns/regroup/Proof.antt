@@ -12,4 +12,4 @@ returns-2 : tie.Need-returns-2
 returns-2 c = c .before .before .write-groups .ensures ∙ regrouped-on _ _ _ (λ e. c .before .before .before .before .if1 .left (c .before .before .before .before .before .tie-number .ensures .0 ∙ e))
 
 pub regroup-spec : {M : Type 1} → statement M
-regroup-spec = tie.close (tie.spec (λ c κs. search needs) (λ c. search needs) returns (λ c κs. search needs) (λ c. search needs) returns-2)
+regroup-spec = tie.close (tie.spec (λ c κs. search needs) returns (λ c κs. search needs) (λ c. search needs) returns-2)

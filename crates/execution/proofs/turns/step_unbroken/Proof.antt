@@ -47,18 +47,18 @@ number-ties-requires c κs =
 
 returns-2 : tie.Need-returns-2
 returns-2 c =
-    let at6 = c .before .before .before .before .before .before in
-    let at10 = at6 .before .before .before .before in
-    let at18 = at10 .before .before .before .before .before .before .before .before in
-    let at26 = at18 .before .before .before .before .before .before .before .before in
-    let at29 = at26 .before .before .before in
-    let at34 = at29 .before .before .before .before .before in
-    let at37 = at34 .before .before .before in
-    let at38 = at37 .before in
-    let at40 = at38 .before .before in
-    let at50 = at40 .before .before .before .before .before .before .before .before .before .before in
-    top-carried _ _ _ _ _ _ _ _ (at50 .pre .0) _ _ (at40 .turn .ensures) (at38 .frame-count .ensures) (at37 .if1 .left) _ _ (at34 .top-frame .ensures .0) (at34 .top-frame .ensures .1) _ _ _ _ (at29 .choose .ensures) _ _ (at26 .post-ties .ensures .0) (at26 .post-ties .ensures .1 .0) _ _ _ _ (at18 .carry-out .ensures) _ _ (at26 .post-ties .ensures .1 .1 .0) (at26 .post-ties .ensures .1 .1 .1) _
-    _ (at6 .close .ensures ∙ ap (closedBy (at18 .carry-out .result)) (at10 .number-ties .ensures)) (c .before .before .regroup .ensures)
+    let at7 = c .before .before .before .before .before .before .before in
+    let at11 = at7 .before .before .before .before in
+    let at19 = at11 .before .before .before .before .before .before .before .before in
+    let at27 = at19 .before .before .before .before .before .before .before .before in
+    let at30 = at27 .before .before .before in
+    let at35 = at30 .before .before .before .before .before in
+    let at38 = at35 .before .before .before in
+    let at39 = at38 .before in
+    let at41 = at39 .before .before in
+    let at51 = at41 .before .before .before .before .before .before .before .before .before .before in
+    top-carried _ _ _ _ _ _ _ _ (at51 .pre .0) _ _ (at41 .turn .ensures) (at39 .frame-count .ensures) (at38 .if1 .left) _ _ (at35 .top-frame .ensures .0) (at35 .top-frame .ensures .1) _ _ _ _ (at30 .choose .ensures) _ _ (at27 .post-ties .ensures .0) (at27 .post-ties .ensures .1 .0) _ _ _ _ (at19 .carry-out .ensures) _ _ (at27 .post-ties .ensures .1 .1 .0) (at27 .post-ties .ensures .1 .1 .1) _
+    _ (at7 .close .ensures ∙ ap (closedBy (at19 .carry-out .result)) (at11 .number-ties .ensures)) (c .before .before .regroup .ensures)
 
 pub step-unbroken-spec : {M : Type 1} → statement M
 step-unbroken-spec =

@@ -27,12 +27,12 @@ enter-requires c κs = c .before .before .before .before .before .before .before
 returns : tie.Need-returns
 returns c =
     let at6 = c .before .before .before .before .before .before in
-    (grouped-not _ _ _ _ _ _ (at6 .before .before .at16 .ensures) (c .if1 .taken) (at6 .enter .ensures .0), at6 .enter .ensures .1)
+    (grouped-not _ _ _ _ _ _ (at6 .before .before .before .at16 .ensures) (c .if1 .taken) (at6 .enter .ensures .0), at6 .enter .ensures .1)
 
 returns-2 : tie.Need-returns-2
 returns-2 c =
     let at10 = c .before .before .before .before .before .before .before .before .before .before in
-    (c .before .before .write-groups .ensures ∙ grouped-anew _ _ _ _ _ _ (at10 .before .before .at16 .ensures) (c .before .before .before .before .if1 .left) (at10 .enter .ensures .0), at10 .enter .ensures .1)
+    (c .before .before .write-groups .ensures ∙ grouped-anew _ _ _ _ _ _ (at10 .before .before .before .at16 .ensures) (c .before .before .before .before .if1 .left) (at10 .enter .ensures .0), at10 .enter .ensures .1)
 
 pub enter-class-spec : {M : Type 1} → statement M
 enter-class-spec = tie.close (tie.spec (λ c κs. search needs) enter-requires (λ c. search needs) (λ c. search needs) returns (λ c κs. search needs) (λ c. search needs) (λ c. search needs) returns-2)
