@@ -59,10 +59,10 @@ fn a_step_is_explained() {
     let (said, outcome) = played(&common::source(&path));
     assert_eq!(outcome.reasons, 2, "{said}");
     for line in [
-        "why: 2 rows lead from Discount of loader 1 (class 2) to Discount of loader 3 (class 4)",
-        "row 0: a tie, Discount is one class under loaders 2 and 1; on to Discount of loader 2 (not loaded)",
-        "row 1, that the step would post: a tie, Discount is one class under loaders 2 and 3; on to Discount of loader 3 (class 4)",
-        "ties alone: both must be one class, and class 2 isn't class 4",
+        "why: 2 rows lead from Discount of loader 3 (class 4) to Discount of loader 1 (class 2)",
+        "row 1, that the step would post: a tie, Discount is one class under loaders 2 and 3; on to Discount of loader 2 (not loaded)",
+        "row 0: a tie, Discount is one class under loaders 2 and 1; on to Discount of loader 1 (class 2)",
+        "ties alone: both must be one class, and class 4 isn't class 2",
     ] {
         assert_eq!(said.matches(line).count(), 2, "{line}\n{said}");
     }

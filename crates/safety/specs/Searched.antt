@@ -4,7 +4,8 @@ use mathlib.Core.List.{List}
 use Prim.Native.Nat.{ℕ}
 use Rattle.definition.specs.declared.Refusal.{Refusal}
 use Rattle.definition.specs.Tables.{Tables}
-use Rattle.definition.specs.Calls.{Call, ComesFromBoot, performAll}
+use Rattle.definition.specs.Calls.{Call, performAll}
+use Rattle.definition.specs.Histories.{ComesFromBoot}
 use Rattle.definition.specs.Safety.{Safe}
 use Rattle.definition.specs.Searching.{Sought, deniedSearch, callsOf, search}
 use Rattle.unbroken.specs.Searched.{Ends, endsFound, endsNone, endsRefused, search-ends}

@@ -13,6 +13,7 @@ pub mod drives;
 pub mod files;
 pub mod graphs;
 pub mod groups;
+pub mod halfway;
 pub mod hidden;
 pub mod hides;
 pub mod javas;
@@ -122,7 +123,7 @@ impl Call {
         self.plan(store).is_some_and(|plan| breaks(store, &plan.added(), &plan.classes, list))
     }
 
-    /// Are these the rows of the chain that is the reason of its clash: the shortest, and of those the first?
+    /// Are these the rows of the chain that is the reason of its clash: the shortest, and of those the newest?
     pub fn is_the_reason(&self, store: &Store, list: &[u16]) -> bool {
         self.plan(store).is_some_and(|plan| chain(store, &plan.added(), &plan.classes).as_deref() == Some(list))
     }
