@@ -10,6 +10,8 @@ pub mod broken;
 pub mod classes;
 pub mod code;
 #[cfg(feature = "host")]
+pub mod asking;
+#[cfg(feature = "host")]
 pub mod compare;
 pub mod drive;
 pub mod file;
@@ -18,6 +20,8 @@ pub mod grouping;
 pub mod groups;
 pub mod hidden;
 pub mod host;
+pub mod host_how;
+pub mod how;
 pub mod load;
 pub mod passing;
 pub mod placed;
@@ -36,6 +40,7 @@ pub mod walks;
 
 pub use answer::{Answer, Refusal, Reply};
 pub use broken::broken;
+pub use how::how;
 pub use load::{boot, define, record, take_back};
 pub use placed::misplaced;
 pub use step::step;

@@ -10,6 +10,8 @@ use reference::Store;
 use crate::advice::advice;
 use crate::check::reason;
 use crate::draw::Strip;
+use crate::expect::Expected;
+use crate::how::{next_class, Offers};
 use crate::lesson::{Act, Doing, Lesson, What};
 use crate::machine;
 use crate::orders::Tried;
@@ -27,6 +29,8 @@ pub struct Show {
     pub draw: bool,
     /// Of each load that clashes, the chain of constraints; it alone is then drawn.
     pub why: bool,
+    /// Of each question how a request could load, the order load by load.
+    pub how: bool,
 }
 
 /// What came of a lesson.
@@ -38,6 +42,8 @@ pub struct Outcome {
     pub failed: usize,
     /// Chains that were said.
     pub reasons: usize,
+    /// Questions how a request could load.
+    pub questions: usize,
     pub strip: Strip,
 }
 
@@ -47,6 +53,7 @@ pub struct Kept {
     pub store: Store,
     origins: Origins,
     orders: Vec<Tried>,
+    offers: Offers,
     last: Last,
 }
 
@@ -55,7 +62,7 @@ impl Kept {
     pub fn booted() -> io::Result<Kept> {
         let mut store = Store::zeros();
         machine::make(&Call::Boot, &mut store, &mut []).ok_or_else(|| io::Error::other("this build has no machine; use ./box"))?;
-        Ok(Kept { store, origins: Origins::default(), orders: Vec::new(), last: Last::Nothing })
+        Ok(Kept { store, origins: Origins::default(), orders: Vec::new(), offers: Offers::default(), last: Last::Nothing })
     }
 }
 
@@ -69,6 +76,7 @@ pub struct Play<'a> {
     /// The order that is being carried out, and those before it, to be compared.
     order: Option<Tried>,
     orders: Vec<Tried>,
+    offers: Offers,
     last: Last,
 }
 
@@ -101,14 +109,14 @@ impl<'a> Play<'a> {
     pub fn go_on(source: &'a Source, lesson: &'a Lesson, show: Show, out: &'a mut dyn Write, kept: &mut Kept, from: usize) -> io::Result<usize> {
         let mut play = Play::new(source, lesson, show, out, kept.clone());
         play.acts(lesson.acts.get(from..).unwrap_or_default())?;
-        *kept = Kept { store: play.outcome.store, origins: play.origins, orders: play.orders, last: play.last };
+        *kept = Kept { store: play.outcome.store, origins: play.origins, orders: play.orders, offers: play.offers, last: play.last };
         Ok(lesson.acts.len())
     }
 
     fn new(source: &'a Source, lesson: &'a Lesson, show: Show, out: &'a mut dyn Write, kept: Kept) -> Play<'a> {
-        let Kept { store, origins, orders, last } = kept;
-        let outcome = Outcome { store, calls: 0, met: 0, failed: 0, reasons: 0, strip: Strip::default() };
-        Play { source, lesson, show, out, outcome, origins, order: None, orders, last }
+        let Kept { store, origins, orders, offers, last } = kept;
+        let outcome = Outcome { store, calls: 0, met: 0, failed: 0, reasons: 0, questions: 0, strip: Strip::default() };
+        Play { source, lesson, show, out, outcome, origins, order: None, orders, offers, last }
     }
 
     fn acts(&mut self, acts: &[Act]) -> io::Result<()> {
@@ -131,12 +139,12 @@ impl<'a> Play<'a> {
 
     /// Calls in an order, then where its answers part from those of the order before it; what follows begins from the store before them.
     fn order(&mut self, called: &str, acts: &[Act]) -> io::Result<()> {
-        let before = (self.outcome.store.clone(), self.origins.clone());
+        let before = (self.outcome.store.clone(), self.origins.clone(), self.offers.clone());
         self.turn_to(Last::Words)?;
         writeln!(self.out, "order {called}{}", if self.orders.is_empty() { "" } else { ", from the same store" })?;
         self.order = Some(Tried::new(called));
         self.acts(acts)?;
-        (self.outcome.store, self.origins) = before;
+        (self.outcome.store, self.origins, self.offers) = before;
         let Some(tried) = self.order.take() else {
             return Ok(());
         };
@@ -199,10 +207,14 @@ impl<'a> Play<'a> {
     fn make(&mut self, doing: &Doing) -> Made {
         let before = self.outcome.store.clone();
         let mut made = Made { answer: String::new(), problems: Vec::new(), reason: String::new(), changes: Vec::new() };
-        match self.call_of(&doing.what) {
-            Ok(Some(call)) => self.call(doing, &call, &before, &mut made),
-            Ok(None) => made.answer = "damaged".into(),
-            Err(said) => {
+        match (&doing.what, self.call_of(&doing.what)) {
+            (What::Offer(_), Ok(Some(load))) => made.answer = self.offers.add(load, doing.said.trim_start_matches("offer ")),
+            (&What::How { loader, name }, _) => self.ask(doing, loader, name, &mut made),
+            (_, Ok(Some(call))) => self.call(doing, &call, &before, &mut made),
+            (_, Ok(None)) => made.answer = "damaged".into(),
+            (what, Err(said)) => {
+                let is_offered = matches!(what, What::Offer(_));
+                let said = if is_offered { format!("{said}; an offer names a class by its number, as {}", next_class(&before)) } else { said };
                 self.outcome.failed += 1;
                 made.answer = "not made".into();
                 made.problems.push(Problem::new(doing.span, said));
@@ -227,7 +239,43 @@ impl<'a> Play<'a> {
                 self.outcome.store.set(table, cell, value);
                 Ok(None)
             }
+            What::Offer(ref load) => self.call_of(load),
+            What::How { .. } => Ok(None),
         }
+    }
+
+    /// Asks by which of the offered loads the request would be cached, and says it load by load.
+    fn ask(&mut self, doing: &Doing, loader: u32, name: u16, made: &mut Made) {
+        let (store, names) = (&self.outcome.store, &self.lesson.names);
+        let Some(asked) = self.offers.ask(store, loader, name) else {
+            return;
+        };
+        made.answer.clone_from(&asked.answer);
+        self.outcome.calls += 1;
+        self.outcome.questions += 1;
+        self.origins.calls += 1;
+        if let Some(order) = &mut self.order {
+            order.add(&doing.said, &asked.told(), &made.answer);
+        }
+        if self.show.how {
+            match asked.lines(store, names) {
+                Ok(lines) => made.reason.extend(lines.into_iter().map(|line| format!("        {line}\n"))),
+                Err(said) => {
+                    self.outcome.failed += 1;
+                    made.problems.push(Problem::new(doing.span, said));
+                }
+            }
+        }
+        let unmet: Vec<_> = doing.expected.iter().filter(|expected| !expected.is_met_by(&asked.found)).collect();
+        self.outcome.met += doing.expected.len() - unmet.len();
+        unmet.into_iter().for_each(|expected| self.miss(expected, made));
+    }
+
+    /// Says that another answer was expected.
+    fn miss(&mut self, expected: &Expected, made: &mut Made) {
+        self.outcome.failed += 1;
+        let wish = self.source.of(expected.span).trim_start_matches("expect").trim_start();
+        made.problems.push(Problem::new(expected.span, format!("expected {wish}, but the answer was: {}", made.answer)));
     }
 
     /// Says by which chain a load clashed, and draws it.
@@ -267,9 +315,7 @@ impl<'a> Play<'a> {
                 self.outcome.met += 1;
                 continue;
             }
-            self.outcome.failed += 1;
-            let wish = self.source.of(expected.span).trim_start_matches("expect").trim_start();
-            made.problems.push(Problem::new(expected.span, format!("expected {wish}, but the answer was: {}", made.answer)));
+            self.miss(expected, made);
         }
         if let (Call::Define { file, .. }, word::FILE | word::UNMAPPED | word::UNVERIFIED) = (call, told.number) {
             let text = self.lesson.texts.iter().find(|text| text.bytes == *file);

@@ -26,6 +26,7 @@ pub mod loops;
 pub mod mapped;
 pub mod numbers;
 pub mod objects;
+pub mod offers;
 pub mod passed;
 pub mod plain;
 pub mod rates;
