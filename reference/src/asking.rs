@@ -5,6 +5,7 @@ use std::fmt;
 use crate::answer::word;
 use crate::broken::broken;
 use crate::compare::sound;
+use crate::gen::dear::dear;
 use crate::gen::offers::{asked, call_of, cases, misshapen_seconds, none_of, none_of_eight, seconds, unreadable, Asked};
 use crate::gen::Trial;
 use crate::host::make;
@@ -184,10 +185,14 @@ impl Asking {
                 self.ask(&asked, CELLS, "a second store of a wrong length");
             }
         }
-        (0..=5).for_each(|count| {
+        for count in 0..=5 {
             let (own, question) = none_of(count);
             self.ask(&Asked { second: own.clone(), own, question, is_booted: true }, CELLS, "none of few");
-        });
+        }
+        for asked in dear() {
+            let question = asked.cut(3);
+            self.ask(&Asked { second: Store::zeros(), own: asked.own, question, is_booted: false }, CELLS, asked.name);
+        }
     }
 
     /// What a seed stands for.

@@ -2,6 +2,7 @@
 
 use reference::answer::word;
 use reference::broken::broken;
+use reference::gen::dear::dear;
 use reference::gen::offers::{asked, cases, misshapen_seconds, none_of, none_of_eight, noise, question, record, seconds, unreadable, Asked};
 use reference::gen::rng::Rng;
 use reference::gen::Trial;
@@ -140,6 +141,26 @@ fn so_many_orders_are_gone_through() {
     let mut second = Store::zeros();
     assert_eq!(how(&own, &mut second, &question), Found::Nothing);
     assert!(second == own);
+}
+
+/// The questions of the benchmark: each offer is read, and but for the line's and the one that is wanted accepted at once; the stores aren't broken.
+#[test]
+fn questions_to_measure_on_are_what_they_say() {
+    for asked in dear() {
+        assert!(!broken(&asked.own), "{}", asked.name);
+        let offers = asked.question.offers().expect("offers");
+        let at_once = offers.iter().filter(|offer| offer.load(&mut asked.own.clone())).count();
+        let is_line = asked.name.ends_with("found");
+        assert_eq!(at_once, if is_line { 1 } else { MOST_OFFERS - usize::from(asked.name.ends_with("request")) }, "{}", asked.name);
+        let mut second = Store::zeros();
+        if is_line {
+            assert_eq!(how(&asked.own, &mut second, &asked.question), Found::Order((0..8).rev().collect()));
+        } else {
+            assert_eq!(how(&asked.own, &mut second, &asked.cut(3)), Found::Nothing);
+        }
+    }
+    let counts = reference::gen::dear::constrained().counts[2..5].to_vec();
+    assert_eq!(counts, [247, 240, 230]);
 }
 
 /// The form of offers: rows of four cells, files by their place in the pool, which may share bytes.

@@ -9,6 +9,7 @@ pub mod clashes;
 pub mod codes;
 pub mod counts;
 pub mod damage;
+pub mod dear;
 pub mod drives;
 pub mod files;
 pub mod graphs;

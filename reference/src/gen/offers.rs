@@ -280,7 +280,7 @@ pub fn misshapen_seconds(own: &Store) -> Vec<Store> {
 pub fn asked(seed: u64) -> Asked {
     let mut rng = Rng::new(seed ^ 0x6F_66_66_65);
     let most = if seed % 16 == 15 { 6 } else { 4 };
-    let (own, mut question, is_booted) = match rng.weighted(&[4, 4, 3, 2]) {
+    let (own, mut question, is_booted) = match rng.weighted(&[5, 5, 4, 2]) {
         0 => family(&mut rng, most),
         1 => numbered(&mut rng, most),
         2 => cut_list(&mut rng, most),
@@ -295,7 +295,7 @@ pub fn asked(seed: u64) -> Asked {
 
 /// Something about the question is wrong, or what it asks for is there, or never comes.
 fn spoil(rng: &mut Rng, own: &Store, question: &mut Question) {
-    match rng.below(16) {
+    match rng.below(28) {
         0 => question.loader = rng.pick(&[LOADERS.into(), 17, 65_536, u32::MAX]),
         1 => question.name = rng.below(2) as u16,
         2 => question.name = rng.pick(&NAMES),
@@ -309,7 +309,7 @@ fn spoil(rng: &mut Rng, own: &Store, question: &mut Question) {
         }
         _ => {}
     }
-    match rng.below(24) {
+    match rng.below(48) {
         0 => drop(question.cells.pop()),
         1 => question.cells.push(rng.below(4) as u32),
         2 => question.cells.extend([rng.pick(&[0, 3, u32::MAX]), 1, 0, 0]),
@@ -327,7 +327,7 @@ fn spoil(rng: &mut Rng, own: &Store, question: &mut Question) {
 
 /// What the second store holds before.
 fn second(rng: &mut Rng, own: &Store) -> Store {
-    match rng.below(12) {
+    match rng.below(20) {
         0..=2 => Store::zeros(),
         3..=5 => noise(rng),
         6 => own.clone(),
