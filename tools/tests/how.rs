@@ -42,7 +42,7 @@ fn the_order_is_said_load_by_load() {
         "how Red Discount                            none of the 65 orders\n        at once offer 0, Red defines Plan: refused: 5, wanted: Red's RedTariff\n",
         "at once offer 2, Red defines Discount: refused: 5, wanted: Red's Object\n",
         "found: offers 1, 0, 2\n",
-        "how Red Tariff                              found: offer 1\n",
+        "how Red Tariff                              found: offer 2\n",
         "refused: 3, unknown\n",
     ] {
         assert!(said.contains(line), "{line}\n{said}");
