@@ -157,6 +157,7 @@ static void orders_found(void)
     finds("one load", ASK(17, OFFERED(6), OFFERED(7)), ORDER(1));
     finds("the last first", ASK(15, OFFERED(5), OFFERED(6), OFFERED(7)), ORDER(2, 1, 0));
     finds("eight in reverse", ASK(10, EIGHT), ORDER(7, 6, 5, 4, 3, 2, 1, 0));
+    finds("no load too many", ASK(17, TARIFF_OFFER_RECORD, 4, 2, 0, OFFERED(7)), ORDER(1));
     finds("equal offers", ASK(17, OFFERED(7), OFFERED(7)), ORDER(0));
     finds("a record of a class that the order makes", ASK_OF(2, 16, OFFERED(6), TARIFF_OFFER_RECORD, 2, 16, 2, OFFERED(7)), ORDER(2, 0, 1));
     finds("an offer of no loader is passed over", ASK(17, 1, 16, 63, 9, OFFERED(7)), ORDER(1));
@@ -185,6 +186,9 @@ static void how_refused(void)
     refuses_how("no loader", many, TARIFF_UNKNOWN);
     many.loader = UINT32_MAX;
     refuses_how("no loader", many, TARIFF_UNKNOWN);
+    many.loader = 65536 + 1;
+    many.name = 2;
+    refuses_how("a loader whose lowest bits are one", many, TARIFF_UNKNOWN);
     refuses_how("a cut row", ASK(17, OFFERED(7), 2, 1, 17), TARIFF_OFFERS);
     refuses_how("a cell", ASK(17, 1), TARIFF_OFFERS);
     refuses_how("kind 0", ASK(17, 0, 1, 0, 9), TARIFF_OFFERS);
@@ -221,6 +225,7 @@ static void searching(void)
         lend(ANSWER, TARIFF_HOW_ANSWER);
         orders_found();
     }
+    fill_second(0x5A);
     how_refused();
     for (size_t n = 0; n <= TARIFF_HOW_ANSWER + 2; n++) {
         lend(ANSWER, n);
