@@ -115,8 +115,12 @@ impl Asked {
         for (place, &number) in order.iter().enumerate() {
             let (load, said) = self.loads.get(usize::from(number)).ok_or("the machine finds an offer that there isn't")?;
             let told = machine::make(load, &mut store, &mut []).ok_or("there is no machine")?;
-            let (when, answer) = (if place == 0 { "first" } else { "then" }, words::answer(load, &told, names, None));
-            lines.push(format!("{when} offer {number}, {said}: {answer}"));
+            let when = match place {
+                0 if order.len() == 1 => "by",
+                0 => "first",
+                _ => "then",
+            };
+            lines.push(format!("{when} offer {number}, {said}: {}", words::answer(load, &told, names, None)));
         }
         if store != self.second {
             return Err("the loads found lead to another store than the search's second".into());
