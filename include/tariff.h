@@ -1,4 +1,4 @@
-/* The tariff class machine for programs in C: eleven calls on a store that the program owns, and a search, tariff_how, that is lent two.
+/* The tariff class machine for programs in C: twelve calls on a store that the program owns, and a search, tariff_how, that is lent two.
    docs/HOST.md tells how to build and link.
 
    A store is eight tables (docs/STORE.md). Every call is lent all eight, each as a pointer and its number of cells, then takes its
@@ -16,7 +16,7 @@
 
 /* The version: how many change papers the machine has taken up, the number of the store's layout (docs/STORE.md, 'Layouts'), and the
    toolchain that proved it. A store that was saved under another layout is no store of this machine. */
-#define TARIFF_PAPERS 11
+#define TARIFF_PAPERS 13
 #define TARIFF_LAYOUT 5
 #define TARIFF_TOOLCHAIN "rattle-kit-5b-plain logic 097e4c862dff5811"
 
@@ -43,7 +43,8 @@ enum {
     TARIFF_LIST = 512,      /* of the list that a try is lent, the least */
     TARIFF_OFFER = 4,       /* of the row of an offered load */
     TARIFF_MOST_OFFERS = 8, /* so many rows at most */
-    TARIFF_HOW_ANSWER = 14  /* of the answer of tariff_how: six, and the order that is found */
+    TARIFF_HOW_ANSWER = 14, /* of the answer of tariff_how: six, and the order that is found */
+    TARIFF_OLD_COUNTS = 8   /* of a store of layout 1; its other tables have the lengths above */
 };
 
 /* A store in one piece, 70,868 bytes: 70,866 of its tables, and two before objects that say nothing. A program may as well keep its
@@ -64,6 +65,22 @@ struct tariff_store {
     (store)->counts, TARIFF_COUNTS, (store)->classes, TARIFF_CLASSES, (store)->kept, TARIFF_KEPT, (store)->cache, TARIFF_CACHE,     \
         (store)->ties, TARIFF_TIES, (store)->subtypes, TARIFF_SUBTYPES, (store)->objects, TARIFF_OBJECTS, (store)->frames, TARIFF_FRAMES
 
+/* A store of layout 1, that of the first document, in one piece of 68,496 bytes; and its eight tables as the changeover takes them. */
+struct tariff_old_store {
+    uint16_t counts[TARIFF_OLD_COUNTS];
+    uint16_t classes[TARIFF_CLASSES];
+    uint8_t kept[TARIFF_KEPT];
+    uint16_t cache[TARIFF_CACHE];
+    uint16_t ties[TARIFF_TIES];
+    uint16_t subtypes[TARIFF_SUBTYPES];
+    uint32_t objects[TARIFF_OBJECTS];
+    uint32_t frames[TARIFF_FRAMES];
+};
+
+#define TARIFF_LEND_OLD(store)                                                                                                      \
+    (store)->counts, TARIFF_OLD_COUNTS, (store)->classes, TARIFF_CLASSES, (store)->kept, TARIFF_KEPT, (store)->cache, TARIFF_CACHE, \
+        (store)->ties, TARIFF_TIES, (store)->subtypes, TARIFF_SUBTYPES, (store)->objects, TARIFF_OBJECTS, (store)->frames, TARIFF_FRAMES
+
 /* The cells of the answer. Of a shorter table the first ones are written, of a longer one the first six, and of TARIFF_FOUND the first
    fourteen. */
 enum tariff_cell {
@@ -79,7 +96,7 @@ enum tariff_cell {
 /* What a call answers. Details that are not named are 0. Of a refusal by TARIFF_WANTED, one and two are the loader and the name that
    are wanted, three the task whose step wants them, 0 if no step does; other refusals have no details. */
 enum tariff_kind {
-    TARIFF_ACCEPTED = 0,    /* boot, record, start, drop, take back or the try of a record */
+    TARIFF_ACCEPTED = 0,    /* boot, record, start, drop, take back, change over or the try of a record */
     TARIFF_DEFINED = 1,     /* define or its try; one: the number of the new class, of a try as it would be */
     TARIFF_STEPPED = 2,     /* step, refused or not; one: enum tariff_done; two: the task; three: of a task that finished, its int */
     TARIFF_RAN_FOR = 3,     /* run; the word and the details are those of its last step */
@@ -259,9 +276,23 @@ uint8_t tariff_take_back(uint16_t *counts, size_t counts_length, const uint16_t 
                          const uint32_t *objects, size_t objects_length, const uint32_t *frames, size_t frames_length,
                          uint32_t *answer, size_t answer_length);
 
+/* change over: fills the new tables, every cell, whatever they held, from a store of layout 1, which is only read. From there calls get the
+   answers that the old store would have given, frames half run included, until what came later is involved (docs/HOST.md, 'Changing over an
+   old store'). No old table may overlap a new one. Refusal: 1, if a new table has a wrong length or the old store is broken by the first
+   document's rules; then no new table changes. */
+uint8_t tariff_change_over(const uint16_t *old_counts, size_t old_counts_length, const uint16_t *old_classes, size_t old_classes_length,
+                           const uint8_t *old_kept, size_t old_kept_length, const uint16_t *old_cache, size_t old_cache_length,
+                           const uint16_t *old_ties, size_t old_ties_length, const uint16_t *old_subtypes, size_t old_subtypes_length,
+                           const uint32_t *old_objects, size_t old_objects_length, const uint32_t *old_frames, size_t old_frames_length,
+                           uint16_t *counts, size_t counts_length, uint16_t *classes, size_t classes_length,
+                           uint8_t *kept, size_t kept_length, uint16_t *cache, size_t cache_length,
+                           uint16_t *ties, size_t ties_length, uint16_t *subtypes, size_t subtypes_length,
+                           uint32_t *objects, size_t objects_length, uint32_t *frames, size_t frames_length,
+                           uint32_t *answer, size_t answer_length);
+
 /* try define, try record: the load isn't made, and is answered as it would be. No table of the store changes. If it clashes, the first cells
    of the list get the numbers of the rows, upward, of the shortest chain of constraints that breaks agreement (of several of one length that
-   with the lower row at the earliest position where they differ, a chain of ties alone being read from either end), and TARIFF_CELL_STEPS how
+   with the newer row at the earliest position where they differ, a chain of ties alone being read from either end), and TARIFF_CELL_STEPS how
    many they are; the list past them stays, and on any other answer all of it. Refusals: 1 3 16 2 15 6 4 5 10 9, and 1 3 16 13 4 10 9. */
 uint8_t tariff_try_define(const uint16_t *counts, size_t counts_length, const uint16_t *classes, size_t classes_length,
                           const uint8_t *kept, size_t kept_length, const uint16_t *cache, size_t cache_length,

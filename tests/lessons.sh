@@ -22,9 +22,9 @@ fail() { # WORDS
 own() {
     local ran
     TARIFF_LIB=$PWD/target/staticlib FUZZ_SECONDS=${FUZZ_SECONDS:-60} cargo test --manifest-path tools/Cargo.toml --offline --release --quiet \
-        --features host --target-dir "$tools/host" --lib --test round_trips --test lessons --test why --test how --test editors --test fuzz 2>&1 | tee "$work/own" || fail "a test of tools/"
+        --features host --target-dir "$tools/host" --lib --test round_trips --test lessons --test why --test how --test changeover --test editors --test fuzz 2>&1 | tee "$work/own" || fail "a test of tools/"
     ran=$(awk '/^test result: ok\. [0-9]+ passed/ { ran += $4 } END { print ran + 0 }' "$work/own")
-    [ "$ran" -ge 24 ] || fail "only $ran tests of tools/ ran"
+    [ "$ran" -ge 26 ] || fail "only $ran tests of tools/ ran"
 }
 
 # What ./box says of each text with a mistake, and its exit status.
@@ -113,12 +113,27 @@ usage() {
     for words in "" "--store" "nothing-there.lesson" "list" "check nothing-there" "asm examples/first.lesson" "--what examples/first.box" \
         "--draw examples/first.lesson mine.lesson" "examples/first.lesson mine.svg" "examples" "why" "why nothing-there.lesson" \
         "why --what examples/first.lesson" "how" "how nothing-there.lesson" "how --what examples/first.lesson" "page" "page nothing-there.lesson" "page examples/first.lesson -o" "talk examples/first.lesson" "watch" \
-        "watch nothing-there.lesson"; do
+        "watch nothing-there.lesson" "change-over" "change-over nothing-there" "change-over examples/first.lesson new.store more"; do
         status=0
         # shellcheck disable=SC2086
         ./box $words >"$work/out" 2>&1 || status=$?
         [ "$status" -eq 2 ] || fail "./box $words ends with $status"
     done
+}
+
+# Saved stores of the old layout: zeros before any boot are changed over; another length, and an old store that is broken, are refused and write nothing.
+changing() {
+    head -c 68496 /dev/zero >"$work/old"
+    ./box change-over "$work/old" "$work/new" >"$work/out" || fail "./box change-over refuses zeros"
+    [ "$(wc -c <"$work/new")" -eq 70868 ] || fail "./box change-over writes no store"
+    rm "$work/new"
+    head -c 68495 /dev/zero >"$work/old"
+    ./box change-over "$work/old" "$work/new" >"$work/out" 2>&1 && fail "./box change-over takes a file of any length"
+    grep -q "has 68495 bytes, and an old store 68496" "$work/out" || fail "./box change-over doesn't say what is wrong with a length"
+    { head -c 6 /dev/zero; printf '\377\377'; head -c 68488 /dev/zero; } >"$work/old"
+    ./box change-over "$work/old" "$work/new" >"$work/out" 2>&1 && fail "./box change-over takes a broken store"
+    grep -q "refused: 1, broken" "$work/out" || fail "./box change-over doesn't say that a store is broken"
+    [ ! -e "$work/new" ] || fail "./box change-over writes what is refused"
 }
 
 # A machine that lists another chain than the reason for some load of the lesson isn't believed.
@@ -154,6 +169,7 @@ mistakes() {
         [taken-back]="a-(define|record)-isnt-remembered|(classes|entries|ties)-arent-cut|all-is-taken-back|a-taking-back-closes|nothing-to-take-back-is-accepted|an-idle-step-closes|a-run-of-nothing-closes|a-refused-(load|start)-closes|a-record-of-what-is-there-[a-z-]+|(start|drop|sweep|a-run)-doesnt-close|drop-[a-z-]+-doesnt-close|a-(sweep-that-frees-nothing|step-that-ran)-doesnt-close"
         [groups-of-ties]="the-(higher-number-is-kept|new-ties-number-is-taken|(first|second)-end-alone-is-united|other-ties-of-a-group-stay|right-partition-under-another-number-is-right|cells-behind-the-groups-are-looked-at)|a-rows-place-for-its-number|each-tie-has-its-own-number|loaders-dont-count|a-(step-writes-its-tie|load-writes-its-ties)-and-no-group|groups-arent-made-anew-after-a-taking-back|a-refused-define-joins-groups|a-loads-own-ties-arent-in-its-groups|groups-are-(never-broken|compared-for-the-first-tie-alone)|one-number-for-two-groups-is-right|a-group-may-have-two-numbers|ties-that-are-gone-count-for-groups"
         [how-could-this-load]="one-order-a-set|the-highest-numbers-win|depth-first-without-length|every-load-that-is-accepted-is-made|offers-are-judged-on-the-box-alone|records-of-new-classes-arent-tried|any-loader-will-do|none-for-cached|numbers-count-from-one|int-may-be-wanted"
+        [changing-over]="a-waiting-frame-goes-back-to-its-call|every-class-is-a-load|the-copy-is-swept|filled-before-it-is-judged"
         [age-bands]="less-than-[a-z-]+|jumps-from-the-instruction|offsets-from-the-instruction|unmapped-is-unverified|unset-for-int"
         [instalments]="ifeq-[a-z-]+|a-jump-to-itself-is-stuck|sweep-forgets-unset-locals|a-set-local-stays-set"
         [rates]="quotients-are-[a-z]+|divide[sd]-[a-z-]+|the-least-by-[a-z-]+|zero-divisor-is-[a-z]+|a-refused-division-[a-z-]+|products-[a-z-]+|rates-in-version-one"
@@ -198,6 +214,7 @@ course
 assembler
 printed
 usage
+changing
 errors
 mistakes
 exit "$wrong"

@@ -4,6 +4,7 @@ use std::fmt;
 
 use crate::answer::word;
 use crate::broken::broken;
+use crate::carrying::PARTS;
 use crate::compare::sound;
 use crate::gen::dear::dear;
 use crate::gen::offers::{asked, call_of, cases, misshapen_seconds, none_of, none_of_eight, seconds, unreadable, Asked};
@@ -77,16 +78,6 @@ const SHAPES: [Shape; 13] = [
     }),
     ("bad offers beside an unknown request", |_, _, question, found| *found == Found::Denied(word::UNKNOWN) && question.offers().is_none()),
     ("a broken box beside an unknown request", |_, _, question, found| *found == Found::Denied(word::BROKEN) && !question.is_known()),
-];
-
-/// The parts of `counts`, and where each begins.
-const PARTS: [(&str, usize); 6] = [
-    ("the counts", 0),
-    ("the owners", count::OWNERS),
-    ("the numbers of ties", count::TIE_NUMBERS),
-    ("the numbers of subtype constraints", count::SUBTYPE_NUMBERS),
-    ("the trace", count::LOADS),
-    ("the groups", count::GROUPS),
 ];
 
 /// Where two stores of the same lengths differ, by table or part of one.

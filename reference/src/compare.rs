@@ -9,6 +9,7 @@ use crate::agree::{agrees, Added};
 use crate::answer::{word, Answer, Refusal, Reply};
 use crate::asking::Asking;
 use crate::broken::unbroken;
+use crate::carrying::Carrying;
 use crate::code::op;
 use crate::gen::chains::chains;
 use crate::gen::clashes::{self, clash};
@@ -56,6 +57,8 @@ pub struct Comparison {
     pub rebooted: u64,
     /// Questions which of some offered loads would have a request cached.
     pub asking: Asking,
+    /// Old stores that were changed over.
+    pub carrying: Carrying,
     /// What the desk answered to so many files, by number.
     pub desk: [u64; 16],
     pub seeds: u64,
@@ -70,6 +73,7 @@ impl Default for Comparison {
             shapes: [0; SHAPES.len()],
             rebooted: 0,
             asking: Asking::default(),
+            carrying: Carrying::default(),
             desk: [0; 16],
             seeds: 0,
         }
@@ -110,7 +114,7 @@ fn same_list(call: &Call, store: &Store, reply: Reply, lists: [&[u16]; 2], label
 
 /// Makes the call on both stores, which are alike, and compares answers and tables. The answer table has so many cells of noise: the
 /// library writes as many of the answer's cells as there is room for, and no others.
-fn both(ours: &mut Store, theirs: &mut Store, call: &Call, cells: usize, label: &str) -> Reply {
+pub fn both(ours: &mut Store, theirs: &mut Store, call: &Call, cells: usize, label: &str) -> Reply {
     const NOISE: u32 = 0x5EED;
     let turn = turn(ours);
     let [mut our_list, mut list] = [vec![UNLISTED; call.cells()], vec![UNLISTED; call.cells()]];
@@ -236,6 +240,7 @@ impl Comparison {
             self.call(&store, &load, seed as usize % 9, &format!("clash {seed}"));
         }
         self.asking.seed(seed);
+        self.carrying.seed(seed);
         let store = cases::whole();
         (FILES * seed..FILES * (seed + 1)).for_each(|seed| self.file(&store, file(seed), &format!("file {seed}")));
     }
@@ -320,6 +325,7 @@ impl Comparison {
             self.call(store, &Call::Sweep, CELLS, label);
             self.call(store, &Call::TakeBack, CELLS, label);
         });
+        self.carrying.cells();
     }
 
     fn add(&mut self, other: &Comparison) {
@@ -330,6 +336,7 @@ impl Comparison {
         (0..SHAPES.len()).for_each(|shape| self.shapes[shape] += other.shapes[shape]);
         self.rebooted += other.rebooted;
         self.asking.add(&other.asking);
+        self.carrying.add(&other.carrying);
         self.seeds += other.seeds;
     }
 
@@ -365,6 +372,7 @@ impl Comparison {
             demand(stores > 0, format!("no damaged store has {what}"));
         }
         self.asking.unmet().into_iter().for_each(|what| demand(false, what));
+        self.carrying.unmet().into_iter().for_each(|what| demand(false, what));
         demand(self.rebooted > 0, "no calls after the boot of a damaged store".into());
         demand(self.damaged.long_runs > 0, "no run of a thousand steps on damaged stores".into());
         demand([0, 2, 6, 15].iter().all(|&number| self.desk[number] > 0), format!("the desk answered {:?}", self.desk));
@@ -380,6 +388,7 @@ impl fmt::Display for Comparison {
         SHAPES.iter().zip(&self.shapes).try_for_each(|((what, _), stores)| writeln!(f, "Damaged stores with {what}: {stores}"))?;
         writeln!(f, "Calls after the boot of a damaged store: {}", self.rebooted)?;
         write!(f, "{}", self.asking)?;
+        write!(f, "{}", self.carrying)?;
         let [sound, no_file, unmapped, unverified] = [0, 2, 15, 6].map(|number| self.desk[number]);
         writeln!(f, "The desk: {sound} sound, {no_file} no files, {unmapped} unmapped, {unverified} unverified")
     }

@@ -14,6 +14,7 @@ pub mod machine;
 pub mod many;
 pub mod maps;
 pub mod names;
+pub mod old;
 pub mod orders;
 pub mod origins;
 pub mod page;

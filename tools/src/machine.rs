@@ -3,6 +3,7 @@
 use reference::gen::Call;
 use reference::host::Told;
 use reference::how::{Found, Question};
+use reference::old::OldStore;
 use reference::Store;
 
 /// Makes the call on the store, a try with this list.
@@ -28,6 +29,19 @@ pub fn how(own: &Store, second: &mut Store, question: &Question) -> Option<Found
 
 #[cfg(not(feature = "host"))]
 pub fn how(_: &Store, _: &mut Store, _: &Question) -> Option<Found> {
+    None
+}
+
+/// Fills today's tables from an old store.
+#[cfg(feature = "host")]
+pub fn change_over(old: &OldStore, store: &mut Store) -> Option<Told> {
+    let mut cells = [0; reference::host::CELLS];
+    let number = reference::host::change_over(old, store, &mut cells);
+    Some(Told { number, cells })
+}
+
+#[cfg(not(feature = "host"))]
+pub fn change_over(_: &OldStore, _: &mut Store) -> Option<Told> {
     None
 }
 

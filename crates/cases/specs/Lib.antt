@@ -14,3 +14,5 @@ pub mod Share
 pub mod TakenBack
 pub mod Levels
 pub mod Groups
+pub mod Changeover
+pub mod FromBoot

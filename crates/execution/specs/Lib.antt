@@ -9,6 +9,12 @@ pub mod Runs
 pub mod Opcodes
 pub mod RowCells
 pub mod Plain
+pub mod Memory
+pub mod Remembered
+pub mod Ties
+pub mod Facts
+pub mod Known
+pub mod Reaches
 pub mod Parts
 pub mod Ahead
 pub mod Walks

@@ -1,4 +1,4 @@
--- An instruction that touches its frame alone, done on the frame's row; and a walk of such instructions.
+-- An instruction that touches its frame alone, done on the frame's row.
 use mathlib.Core.Path.{_≡_, refl, sym, ap, _∙_}
 use mathlib.Core.Bool.{Bool, true, false, true≢false, false≢true}
 use mathlib.Core.Option.{Option, none, some}
@@ -163,7 +163,7 @@ stepping v code R p d m G l i n x b e r q f w = record {
 -- Decoding, by the opcode
 
 module _ (v : ℕ) (code : List ℕ) (p : ℕ) where
-  decode-as : (o : Opcode) → opcodeOf v (getD code p 0) ≡ o → p + suc (inlineLength code (p + 1) o) ≤ length code
+  pub decode-as : (o : Opcode) → opcodeOf v (getD code p 0) ≡ o → p + suc (inlineLength code (p + 1) o) ≤ length code
       → decode v code p ≡ sizedAs (suc (inlineLength code (p + 1) o)) (instructionOf code (p + 1) o)
   unfolding decode
   decode-as o e l = ap body e ∙ chosen (leb (p + suc (inlineLength code (p + 1) o)) (length code)) (le-leb _ _ l)
@@ -260,7 +260,7 @@ module _ (R : List ℕ) (long : length R ≡ 52) where
   wrote-cells n (Enter d x) q e G w = absurd w
   wrote-cells n (Make d c o) q e G w = absurd w
 
-wrote-few : (R : List ℕ) (n : ℕ) (x : Plan) (q e : ℕ) (G : List ℕ) → Wrote R n x q e G → e ≤ 16
+pub wrote-few : (R : List ℕ) (n : ℕ) (x : Plan) (q e : ℕ) (G : List ℕ) → Wrote R n x q e G → e ≤ 16
 wrote-few R n (Refuse r) q e G w = absurd w
 wrote-few R n (Keep d) q e G w = omega (arith, w .0, w .2)
 wrote-few R n (Jump d x) q e G w = omega (arith, w .0, w .2)
@@ -272,36 +272,6 @@ wrote-few R n (Field d o j v) q e G w = absurd w
 wrote-few R n (Enter d x) q e G w = absurd w
 wrote-few R n (Make d c o) q e G w = absurd w
 
--- A walk: k instructions, one after another, lead from the row R to the row G
-
-unfoldable pub Walked : ℕ → List ℕ → List ℕ → ℕ → List ℕ → Type 0
-Walked v code R zero G = G ≡ R
-Walked v code R (suc k) G = (S : List ℕ) × Walked v code R k S × Step v code S (getD S 2 0) (getD S 3 0) (getD G 2 0) (getD G 3 0) G
-
-pub here : (v : ℕ) (code R : List ℕ) → Walked v code R 0 R
-unfolding Walked
-here v code R = refl
-
 -- where the walk is: at point p, with d operands
 abbrev pub At : List ℕ → ℕ → ℕ → Type 0
 At R p d = (p ≡ getD R 2 0) × (d ≡ getD R 3 0) × (d ≤ 16) × (length R ≡ 52)
-
--- one instruction more
-pub walk-on : (v : ℕ) (code R S G : List ℕ) (k p d : ℕ) (m : Moved) → Walked v code R k S → At S p d → Stepping v code S p d m G → m .on ≡ true → Walked v code R (k + 1) G × At G (m .point) (m .depth)
-unfolding Walked
-walk-on v code R S G k p d m w a h o =
-    let s : Step v code S p d (m .point) (m .depth) G = h .did o in
-    let c : Cells S (m .point) (m .depth) G = wrote-cells S (a .3) (p + s .size) (s .plan) (m .point) (m .depth) G (s .wrote) in
-    (rw (add-one k) (S, w, rw (a .0, a .1, c .point, c .depth) at s), (c .point, c .depth, wrote-few S (p + s .size) (s .plan) (m .point) (m .depth) G (s .wrote), c .size ∙ a .3))
-
--- the same for every version that the numbers xs are of, of which there is one; the opcode's number is n, off the byte b at point p
-module _ (code R S G xs : List ℕ) (k p d : ℕ) (m : Moved) (w : (v : ℕ) → Numbers v xs → Walked v code R k S) (n : ℕ) (does : Does (opcodeNumbered n) code S p d m G)
-    (a b i : ℕ) (e : a ≡ p) (f : b ≡ getD code a 0) (l : b < 256) (g : i ≡ b) (q : n ≡ getD xs i 0) where
-  stepped : (v : ℕ) → Numbers v xs → Stepping v code S p d m G
-  stepped v h = does v (numbered-at v xs code p a b i n e f l g q h)
-
-  pub walk-more : (v : ℕ) × Numbers v xs → At S p d → m .on ≡ true → ((v : ℕ) → Numbers v xs → Walked v code R (k + 1) G) × At G (m .point) (m .depth)
-  walk-more z t o = (λ v h. walk-on v code R S G k p d m (w v h) t (stepped v h) o .0, walk-on (z .0) code R S G k p d m (w (z .0) (z .1)) t (stepped (z .0) (z .1)) o .1)
-
-  pub walk-stops : m .on ≡ false → (v : ℕ) → Numbers v xs → Walked v code R k G
-  walk-stops o v h = rw (stepped v h .not o) (w v h)

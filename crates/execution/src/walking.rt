@@ -1,5 +1,5 @@
-// Instructions that touch their frame alone, done at once on its row of cells, one after another. The decision on an instruction is the one of a step, made on the
-// row alone; only a plan that writes the row is carried out, else the row is as it was and the instruction is left to a step.
+// Instructions that touch their frame alone, done on its row of cells. The decision on an instruction is the one of a step, made on the row alone; only a plan that
+// writes the row is carried out, else the row is as it was and the instruction is left to a step.
 use definition::Condition;
 use definition::Kind;
 use definition::Opcode;
@@ -9,11 +9,10 @@ use frames::Top;
 use instructions::Plan;
 ghost use mathlib.Core.Path.{_≡_};
 ghost use mathlib.Core.Bool.{false};
-ghost use Prim.Native.Nat.{ℕ, _≤_};
-ghost use lib.ListN.{length, getD};
+ghost use Prim.Native.Nat.{_≤_};
 ghost use Rattle.definition.specs.Numbers.{operandLimit};
-ghost use Rattle.execution.specs.Opcodes.{opcodeNumbered, Numbers};
-ghost use Rattle.execution.specs.Plain.{Inside, Putting, Does, DoesAnywhere, Walked};
+ghost use Rattle.execution.specs.Opcodes.{opcodeNumbered};
+ghost use Rattle.execution.specs.Plain.{Inside, Putting, Does, DoesAnywhere};
 
 // Whether an instruction was done; then the frame's point and its number of operands.
 pub(crate) struct Moved {
@@ -22,7 +21,7 @@ pub(crate) struct Moved {
     pub depth: u32,
 }
 
-fn stay() -> Moved
+pub(crate) fn stay() -> Moved
     ensures { λ r. ⌜ r .on ≡ false ⌝ }
 {
     Moved {
@@ -48,7 +47,7 @@ fn top_of(d: u32) -> Top
 // Plans carried out on the row, by what they write; the frame goes on at point q
 
 // d operands stay.
-fn keep(row: &mut [u32], q: u32, d: u32) -> Moved
+pub(crate) fn keep(row: &mut [u32], q: u32, d: u32) -> Moved
     ensures { λ r. ⌜ Putting (now (row .entry)) q (Plan.Keep d) r (now (row .exit)) ⌝ }
 {
     if OPERAND_LIMIT < d {
@@ -74,7 +73,7 @@ fn put_point(row: &mut [u32], q: u32, plan: Plan) -> Moved
 }
 
 // A value stands above the operands that stay.
-fn put_above(row: &mut [u32], q: u32, plan: Plan) -> Moved
+pub(crate) fn put_above(row: &mut [u32], q: u32, plan: Plan) -> Moved
     ensures { λ r. ⌜ Putting (now (row .entry)) q plan r (now (row .exit)) ⌝ }
 {
     let Plan::Above(d, v) = plan else {
@@ -195,7 +194,7 @@ fn branch(row: &mut [u32], code: &[u8], c: Condition, p: u32, d: u32) -> Moved
 }
 
 // One instruction, whose opcode has that number.
-fn one(row: &mut [u32], code: &[u8], number: u8, p: u32, d: u32) -> Moved
+pub(crate) fn one(row: &mut [u32], code: &[u8], number: u8, p: u32, d: u32) -> Moved
     requires { ⌜ Inside (now code) p × (d ≤ operandLimit) ⌝ }
     ensures { λ r. ⌜ Does (opcodeNumbered number) (now (code .entry)) (now (row .entry)) p d r (now (row .exit)) ⌝ }
 {
@@ -217,29 +216,4 @@ fn one(row: &mut [u32], code: &[u8], number: u8, p: u32, d: u32) -> Moved
         15 => branch(row, code, Condition::Always, p, d),
         _ => stay(),
     }
-}
-
-// Up to `most` instructions of the frame in a row, by the numbers of the opcode bytes; answers how many.
-pub(crate) fn walk(row: &mut [u32], numbers: &[u8], code: &[u8], most: u16) -> u16
-    requires { ⌜ (length (now row) ≡ 52) × (getD (now row) 3 0 ≤ 16) × (length (now code) ≤ 65535) × ((v : ℕ) × Numbers v (now numbers)) ⌝ }
-    ensures { λ r. ⌜ ((v : ℕ) → Numbers v (now (numbers .entry)) → Walked v (now (code .entry)) (now (row .entry)) r (now (row .exit))) × (r ≤ most) ⌝ }
-{
-    let mut p = frames::point(row, 0);
-    let mut d = frames::depth(row, 0);
-    let mut k: u16 = 0;
-    while k < most {
-        let at = cells::wide32(p);
-        if code.len() <= at {
-            return k;
-        }
-        let number = cells::at8(numbers, cells::wide8(cells::at8(code, at)));
-        let m = one(row, code, number, p, d);
-        if !m.on {
-            return k;
-        }
-        p = m.point;
-        d = m.depth;
-        k += 1;
-    }
-    k
 }

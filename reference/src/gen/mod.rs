@@ -14,6 +14,7 @@ pub mod drives;
 pub mod files;
 pub mod graphs;
 pub mod groups;
+pub mod halfway;
 pub mod hidden;
 pub mod hides;
 pub mod javas;

@@ -14,6 +14,7 @@ use crate::check::reason;
 use crate::how::Offers;
 use crate::lesson::{Act, Doing, Lesson, What};
 use crate::machine;
+use crate::old::Old;
 use crate::orders::Tried;
 use crate::origins::Origins;
 use crate::rows::next_instruction;
@@ -29,6 +30,8 @@ pub const MOST_SHOWN: usize = 2_000;
 #[derive(Clone)]
 struct Time {
     store: Store,
+    /// The old machine's, once a call of its was made.
+    old: Option<Old>,
     origins: Origins,
     /// The stores of the machines with a mistake.
     wrong: Vec<Store>,
@@ -78,6 +81,8 @@ struct Made {
     answer: String,
     met: bool,
     unmet: bool,
+    /// Was a call of the old machine, or the changeover, refused?
+    carry_refused: bool,
     /// What the machines with a mistake say.
     wrong: Vec<String>,
     /// Of a question for an order of offered loads, the order in words.
@@ -90,7 +95,7 @@ impl<'a> Recorder<'a> {
         let mut store = Store::zeros();
         machine::make(&Call::Boot, &mut store, &mut [])?;
         let wrong = vec![store.clone(); lesson.mistakes.len()];
-        let time = Time { store, origins: Origins::default(), wrong, rows: Rows::new(), last: None };
+        let time = Time { store, old: None, origins: Origins::default(), wrong, rows: Rows::new(), last: None };
         let (methods, steps, slots, orders) = (Methods::new(&lesson.texts), Vec::new(), Vec::new(), Vec::new());
         let (intro, said, order) = (Vec::new(), Vec::new(), None);
         let (offers, first_slot, left_out, failed, calls) = (Offers::default(), 0, 0, 0, 0);
@@ -178,6 +183,7 @@ impl<'a> Recorder<'a> {
         let mut made = Made { before: Some(self.time.store.clone()), ..Made::default() };
         match (resolved(&doing.what, &self.time.store), &doing.what) {
             (Some(call), _) => self.call(doing, call, &mut made),
+            (None, What::Old(_) | What::ChangeOver) => self.carry(doing, &mut made),
             (None, &What::Damage { table, cell, value }) => {
                 self.time.store.set(table, cell, value);
                 self.time.wrong.iter_mut().for_each(|store| store.set(table, cell, value));
@@ -196,6 +202,26 @@ impl<'a> Recorder<'a> {
         }
         self.failed += usize::from(made.unmet);
         made
+    }
+
+    /// A call of the old machine, or the changeover from its store, which the machines with a mistake go on from too.
+    fn carry(&mut self, doing: &Doing, made: &mut Made) {
+        let old = self.time.old.get_or_insert_with(Old::booted);
+        let done = match &doing.what {
+            What::Old(what) => old.make(what, &self.lesson.names).ok(),
+            _ => old.change_over(&mut self.time.store),
+        };
+        let told = done.as_ref().and_then(|done| done.told);
+        made.answer = done.map_or("not made".into(), |done| done.answer);
+        made.met = !doing.expected.is_empty() && told.is_some_and(|told| doing.expected.iter().all(|expected| expected.is_met(&told)));
+        made.unmet = !doing.expected.is_empty() && !made.met;
+        self.calls += usize::from(told.is_some());
+        made.carry_refused = told.is_some_and(|told| told.number != 0);
+        if let What::ChangeOver = doing.what {
+            let is_filled = told.is_some_and(|told| told.number == 0);
+            self.time.origins.carry(is_filled.then(|| self.time.store.constraint_count()));
+            self.time.wrong.iter_mut().for_each(|store| store.clone_from(&self.time.store));
+        }
     }
 
     fn call(&mut self, doing: &Doing, call: Call, made: &mut Made) {
@@ -255,6 +281,9 @@ impl<'a> Recorder<'a> {
         }
         if !made.how.is_empty() {
             step.push(("reason", json::string(&made.how.join("\n"))));
+        }
+        if made.carry_refused {
+            step.push(("refused", "true".into()));
         }
         let wrong = self.lesson.mistakes.iter().zip(&made.wrong);
         step.push(("wrong", json::list(wrong.map(|(fault, answer)| json::strings([*fault, answer])))));

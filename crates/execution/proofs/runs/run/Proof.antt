@@ -1,10 +1,8 @@
 -- A run that is refused changes nothing; any other takes its steps.
-use mathlib.Core.Path.{refl}
 use native.Mathlib.Omega.{arith}
-use Rattle.definition.specs.Lists.{rows}
-use Rattle.definition.specs.Instructions.{pick, opcodeOf}
-use Rattle.execution.specs.Opcodes.{numbers, numberAt, versionAt}
+use mathlib.Core.Path.{_≡_, refl, sym, ap, _∙_}
 use Rattle.execution.specs.Runs.{run-allowed}
+use Rattle.instructions.specs.Operands.{positive}
 use borrow.Author.Needs.{needs}
 use Rattle.execution.proofs.runs.run.Statement.{statement}
 use Rattle.execution.proofs.runs.run.Tie as tie
@@ -12,18 +10,14 @@ use Rattle.execution.proofs.runs.run.Tie as tie
 returns : tie.Need-returns
 returns c = c .before .denied .ensures .denied (c .if1 .taken)
 
-slice-aggregate-steps : tie.Need-slice-aggregate-steps
-slice-aggregate-steps c = search needs
+cast-steps-allowed : tie.Need-cast-steps-allowed
+cast-steps-allowed c = omega (arith, c .before .before .before .before .before .denied .ensures .allowed (c .before .before .before .before .if1 .left) .2)
 
-cast-steps : tie.Need-cast-steps
-cast-steps c = omega (arith, c .before .before .before .before .before .before .denied .ensures .allowed (c .before .before .before .before .before .if1 .left) .2)
-
-steps-requires : tie.Need-steps-requires
-unfolding numbers rows numberAt versionAt opcodeOf pick
-steps-requires c κs = (c .before .before .before .before .before .before .denied .ensures .allowed (c .before .before .before .before .before .if1 .left) .0, refl)
+steps-allowed-requires : tie.Need-steps-allowed-requires
+steps-allowed-requires c κs = (c .before .before .before .before .before .denied .ensures .allowed (c .before .before .before .before .if1 .left) .0, positive _ (c .before .before .before .before .before .denied .ensures .allowed (c .before .before .before .before .if1 .left) .1))
 
 returns-2 : tie.Need-returns-2
-returns-2 c = run-allowed _ _ _ (c .before .before .before .before .before .before .before .before .before .before .before .before .before .before .before .denied .ensures) (c .before .before .before .before .before .before .before .before .before .before .before .before .before .before .if1 .left) _ (c .before .before .before .before .before .before .before .before .steps .ensures)
+returns-2 c = run-allowed _ _ _ (c .before .before .before .before .before .before .before .before .before .before .before .before .before .before .denied .ensures) (c .before .before .before .before .before .before .before .before .before .before .before .before .before .if1 .left) _ (c .before .before .before .before .before .before .before .before .steps-allowed .ensures)
 
 pub run-spec : {M : Type 1} → statement M
 run-spec =
@@ -35,9 +29,8 @@ run-spec =
     (λ c. search needs)
     (λ c. search needs)
     returns
-    slice-aggregate-steps
-    cast-steps
-    steps-requires
+    cast-steps-allowed
+    steps-allowed-requires
     (λ c. search needs)
     (λ c. search needs)
     (λ c. search needs)
