@@ -2,7 +2,7 @@
    limits, answer tables of every length, a run beside its steps, objects freed and their numbers used again, the report's share, files of
    version 2, products and quotients, fields of one name in a class and above it, files of version 3 with 0 to 4 arguments, loads tried on
    short and long lists, and the chains of those that clash, loads taken back, what closes them, and traces that nobody left; and the desk
-   beside define. */
+   beside define. And the search for an order of offered loads, on a second store. */
 #define _GNU_SOURCE
 #include "host.h"
 
@@ -1477,6 +1477,8 @@ static void damaged_groups(void)
     accepts("and a load", record(4, 2, 0));
 }
 
+#include "how.h"
+
 int main(void)
 {
     static const char *const names[] = {"boot", "define", "record", "start", "step", "run", "drop", "sweep", "take back", "try define", "try record", "check"};
@@ -1515,7 +1517,8 @@ int main(void)
     taking_back();
     joined_and_parted();
     damaged_groups();
-    printf("host: bytes of stack:");
+    searching();
+    printf("host: bytes of stack: how %zu", deepest_how);
     for (int i = 0; i < MEASURED; i++) {
         printf(" %s %zu", names[i], deepest[i]);
         check("the stack is measured, and as promised", 0 < deepest[i] && deepest[i] <= PROMISED);

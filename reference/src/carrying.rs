@@ -35,7 +35,7 @@ pub struct Carrying {
 }
 
 /// The parts of `counts`, and where each begins.
-const PARTS: [(&str, usize); 6] = [
+pub const PARTS: [(&str, usize); 6] = [
     ("the counts", 0),
     ("the owners", count::OWNERS),
     ("the numbers of ties", count::TIE_NUMBERS),

@@ -7,6 +7,7 @@ use std::time::{Duration, Instant};
 
 use crate::agree::{agrees, Added};
 use crate::answer::{word, Answer, Refusal, Reply};
+use crate::asking::Asking;
 use crate::broken::unbroken;
 use crate::carrying::Carrying;
 use crate::code::op;
@@ -54,6 +55,8 @@ pub struct Comparison {
     pub shapes: [u64; SHAPES.len()],
     /// Calls that followed the boot of a damaged store.
     pub rebooted: u64,
+    /// Questions which of some offered loads would have a request cached.
+    pub asking: Asking,
     /// Old stores that were changed over.
     pub carrying: Carrying,
     /// What the desk answered to so many files, by number.
@@ -69,6 +72,7 @@ impl Default for Comparison {
             misshapen: [0; CALLS.len()],
             shapes: [0; SHAPES.len()],
             rebooted: 0,
+            asking: Asking::default(),
             carrying: Carrying::default(),
             desk: [0; 16],
             seeds: 0,
@@ -235,6 +239,7 @@ impl Comparison {
             let (store, load) = clash(seed);
             self.call(&store, &load, seed as usize % 9, &format!("clash {seed}"));
         }
+        self.asking.seed(seed);
         self.carrying.seed(seed);
         let store = cases::whole();
         (FILES * seed..FILES * (seed + 1)).for_each(|seed| self.file(&store, file(seed), &format!("file {seed}")));
@@ -242,6 +247,7 @@ impl Comparison {
 
     /// What needs no seed.
     fn fixed(&mut self) {
+        self.asking.fixed();
         for (what, store, _) in groups::cases() {
             [Call::TakeBack, Call::Step, Call::Sweep, Call::Record { loader: 4, name: 2, class: 0 }].iter().for_each(|call| drop(self.call(&store, call, CELLS, what)));
         }
@@ -329,6 +335,7 @@ impl Comparison {
         (0..16).for_each(|number| self.desk[number] += other.desk[number]);
         (0..SHAPES.len()).for_each(|shape| self.shapes[shape] += other.shapes[shape]);
         self.rebooted += other.rebooted;
+        self.asking.add(&other.asking);
         self.carrying.add(&other.carrying);
         self.seeds += other.seeds;
     }
@@ -364,6 +371,7 @@ impl Comparison {
         for ((what, _), &stores) in SHAPES.iter().zip(&self.shapes) {
             demand(stores > 0, format!("no damaged store has {what}"));
         }
+        self.asking.unmet().into_iter().for_each(|what| demand(false, what));
         self.carrying.unmet().into_iter().for_each(|what| demand(false, what));
         demand(self.rebooted > 0, "no calls after the boot of a damaged store".into());
         demand(self.damaged.long_runs > 0, "no run of a thousand steps on damaged stores".into());
@@ -379,6 +387,7 @@ impl fmt::Display for Comparison {
         writeln!(f, "Calls on tables of a wrong length: {:?}", self.misshapen)?;
         SHAPES.iter().zip(&self.shapes).try_for_each(|((what, _), stores)| writeln!(f, "Damaged stores with {what}: {stores}"))?;
         writeln!(f, "Calls after the boot of a damaged store: {}", self.rebooted)?;
+        write!(f, "{}", self.asking)?;
         write!(f, "{}", self.carrying)?;
         let [sound, no_file, unmapped, unverified] = [0, 2, 15, 6].map(|number| self.desk[number]);
         writeln!(f, "The desk: {sound} sound, {no_file} no files, {unmapped} unmapped, {unverified} unverified")

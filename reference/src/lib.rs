@@ -12,6 +12,8 @@ pub mod changeover;
 pub mod classes;
 pub mod code;
 #[cfg(feature = "host")]
+pub mod asking;
+#[cfg(feature = "host")]
 pub mod carrying;
 #[cfg(feature = "host")]
 pub mod compare;
@@ -22,6 +24,8 @@ pub mod grouping;
 pub mod groups;
 pub mod hidden;
 pub mod host;
+pub mod host_how;
+pub mod how;
 pub mod load;
 pub mod old;
 pub mod passing;
@@ -42,6 +46,7 @@ pub mod walks;
 pub use answer::{Answer, Refusal, Reply};
 pub use broken::broken;
 pub use changeover::change_over;
+pub use how::how;
 pub use load::{boot, define, record, take_back};
 pub use placed::misplaced;
 pub use step::step;

@@ -93,6 +93,13 @@ pub enum What {
         cell: usize,
         value: u32,
     },
+    /// A load is offered, and not made.
+    Offer(Box<What>),
+    /// By which of the offered loads would the request be cached?
+    How {
+        loader: u32,
+        name: u16,
+    },
     /// The same by the old machine, on the old store.
     Old(Box<What>),
     /// Today's tables are filled from the old store.
@@ -105,7 +112,7 @@ const MOST_ROUNDS: i64 = 1_000;
 type Statement = (&'static str, &'static str, fn(&mut Reader) -> Parsed<What>);
 
 /// Every call has its words here.
-const STATEMENTS: [Statement; 12] = [
+const STATEMENTS: [Statement; 14] = [
     ("boot", "boot", |_| Ok(What::Call(Call::Boot))),
     ("loader", "loader 1 defines Discount, or loader 2 records Discount as 3", |reader| reader.loader()),
     ("quote", "quote starts 1 Policy.rate 7", |reader| reader.starts(0)),
@@ -118,6 +125,8 @@ const STATEMENTS: [Statement; 12] = [
     ("take", "take back", |reader| reader.at.keyword("back").map(|_| What::Call(Call::TakeBack))),
     ("change", "change over", |reader| reader.at.keyword("over").map(|_| What::ChangeOver)),
     ("damage", "damage counts 5 300", |reader| reader.damage()),
+    ("offer", "offer loader 1 defines Discount", |reader| reader.offer()),
+    ("how", "how 1 Discount", |reader| reader.how()),
 ];
 
 /// What stands in a text besides calls. Those that aren't allowed among the calls of a repeat or an order come first.
@@ -421,8 +430,13 @@ impl Reader<'_, '_> {
             expected.push(Expected::read(&mut self.at)?);
         }
         self.at.line_ends("a call").map_err(|problem| problem.near(self.at.text(), ["expect"]))?;
-        if let (What::Damage { .. }, Some(first)) = (&what, expected.first()) {
-            return Err(Problem::new(first.span, "damage is no call and has no answer"));
+        match (&what, expected.first()) {
+            (What::Damage { .. }, Some(first)) => return Err(Problem::new(first.span, "damage is no call and has no answer")),
+            (What::Offer(_), Some(first)) => {
+                let problem = Problem::new(first.span, "an offer isn't made, and has no answer");
+                return Err(problem.help("expect stands behind the question: how 1 Discount expect found 0"));
+            }
+            _ => {}
         }
         let said = self.at.source.of(span).split_whitespace().collect::<Vec<_>>().join(" ");
         Ok(Doing { what, said, span, expected, asked })
@@ -475,6 +489,21 @@ impl Reader<'_, '_> {
         }
         let class = self.at.any_number("a class number")?;
         Ok(What::Call(Call::Record { loader, name: name.into(), class }))
+    }
+
+    /// `offer LOAD`: a define or a record by a loader or an insurer.
+    fn offer(&mut self) -> Parsed<What> {
+        if self.at.insurer().is_none() {
+            self.at.keyword("loader")?;
+        }
+        let loader = self.at.loader()?;
+        Ok(What::Offer(Box::new(self.loads(loader)?)))
+    }
+
+    /// `how LOADER NAME`: the request that is wanted.
+    fn how(&mut self) -> Parsed<What> {
+        self.at.took("loader");
+        Ok(What::How { loader: self.at.loader()?, name: self.at.name("a class's name")? })
     }
 
     /// The class text that is called so.
@@ -536,7 +565,9 @@ impl Reader<'_, '_> {
 /// What is done, by the old machine, which has the calls of the first document alone.
 fn of_old(act: Act) -> Parsed<Act> {
     Ok(match act {
-        Act::Do(Doing { what: What::ChangeOver | What::Call(Call::Sweep | Call::TakeBack), span, .. }) => return Err(Problem::new(span, NO_CALL)),
+        Act::Do(Doing { what: What::ChangeOver | What::Offer(_) | What::How { .. } | What::Call(Call::Sweep | Call::TakeBack), span, .. }) => {
+            return Err(Problem::new(span, NO_CALL));
+        }
         Act::Do(doing) => Act::Do(Doing { what: What::Old(Box::new(doing.what)), said: format!("old: {}", doing.said), ..doing }),
         Act::Repeat { times, acts } => Act::Repeat { times, acts: acts.into_iter().map(of_old).collect::<Parsed<_>>()? },
         act => act,

@@ -5,6 +5,7 @@ pub mod check;
 pub mod cursor;
 pub mod draw;
 pub mod expect;
+pub mod how;
 pub mod input;
 pub mod java;
 pub mod lesson;

@@ -50,7 +50,7 @@ impl Old {
                 is_there.then_some(()).ok_or_else(|| format!("an old store has {length} cells of {}", TABLES[table].0))?;
                 return Ok(Made { told: None, answer: "damaged".into() });
             }
-            What::Old(_) | What::ChangeOver => return Err(NO_CALL.into()),
+            What::Old(_) | What::ChangeOver | What::Offer(_) | What::How { .. } => return Err(NO_CALL.into()),
         };
         let turn = u32::from(self.0.counts[6] == 0);
         let ran = if old::broken(&self.0) { None } else { rows::next_instruction(&carried(&self.0), names) };

@@ -14,7 +14,7 @@ fn read(source: &Source) -> Lesson {
 }
 
 fn played(source: &Source, lesson: &Lesson) -> Outcome {
-    let show = Show { store: true, draw: true, why: false };
+    let show = Show { store: true, draw: true, why: false, how: false };
     Play::run(source, lesson, show, &mut io::sink()).expect("a machine")
 }
 

@@ -10,7 +10,7 @@ use writer::source::Source;
 fn played(source: &Source) -> (String, Outcome) {
     let lesson = Lesson::read(source).unwrap_or_else(|problems| panic!("{}", source.show_all(&problems)));
     let mut out = Vec::new();
-    let outcome = Play::run(source, &lesson, Show { store: false, draw: true, why: true }, &mut out).expect("a machine");
+    let outcome = Play::run(source, &lesson, Show { store: false, draw: true, why: true, how: false }, &mut out).expect("a machine");
     (String::from_utf8(out).expect("words"), outcome)
 }
 

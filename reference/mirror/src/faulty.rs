@@ -10,6 +10,7 @@ mod listed;
 mod made;
 mod mapped;
 mod rates;
+pub mod searched;
 mod shared;
 mod swept;
 mod taken;

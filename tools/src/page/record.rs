@@ -11,6 +11,7 @@ use super::quiz;
 use super::state::{changes, rows, Rows};
 use crate::advice::{advice, resolved};
 use crate::check::reason;
+use crate::how::Offers;
 use crate::lesson::{Act, Doing, Lesson, What};
 use crate::machine;
 use crate::old::Old;
@@ -63,6 +64,7 @@ pub struct Recorder<'a> {
     pub said: Vec<String>,
     orders: Vec<Order>,
     order: Option<Order>,
+    offers: Offers,
     /// Where the first of these orders begins.
     first_slot: usize,
     pub left_out: usize,
@@ -83,6 +85,8 @@ struct Made {
     carry_refused: bool,
     /// What the machines with a mistake say.
     wrong: Vec<String>,
+    /// Of a question for an order of offered loads, the order in words.
+    how: Vec<String>,
 }
 
 impl<'a> Recorder<'a> {
@@ -94,9 +98,9 @@ impl<'a> Recorder<'a> {
         let time = Time { store, old: None, origins: Origins::default(), wrong, rows: Rows::new(), last: None };
         let (methods, steps, slots, orders) = (Methods::new(&lesson.texts), Vec::new(), Vec::new(), Vec::new());
         let (intro, said, order) = (Vec::new(), Vec::new(), None);
-        let (first_slot, left_out, failed, calls) = (0, 0, 0, 0);
+        let (offers, first_slot, left_out, failed, calls) = (Offers::default(), 0, 0, 0, 0);
         let mut recorder =
-            Recorder { source, lesson, time, methods, steps, slots, intro, said, orders, order, first_slot, left_out, failed, calls };
+            Recorder { source, lesson, time, methods, steps, slots, intro, said, orders, order, offers, first_slot, left_out, failed, calls };
         recorder.push(vec![("call", json::string("boot")), ("answer", json::string("booted"))]);
         recorder.acts(&lesson.acts);
         if recorder.slots.is_empty() {
@@ -152,13 +156,13 @@ impl<'a> Recorder<'a> {
 
     /// An order's calls, then back to the store before them. A later order stands beside the first.
     fn order(&mut self, called: &str, acts: &[Act]) {
-        let before = self.time.clone();
+        let before = (self.time.clone(), self.offers.clone());
         if self.orders.is_empty() {
             self.first_slot = self.slots.len();
         }
         self.order = Some(Order { tried: Tried::new(called), steps: Vec::new(), shown: 0 });
         self.acts(acts);
-        self.time = before;
+        (self.time, self.offers) = before;
         let Some(order) = self.order.take() else {
             return;
         };
@@ -185,6 +189,12 @@ impl<'a> Recorder<'a> {
                 self.time.wrong.iter_mut().for_each(|store| store.set(table, cell, value));
                 made.answer = "damaged".into();
             }
+            (None, What::Offer(load)) if resolved(load, &self.time.store).is_some() => {
+                let load = resolved(load, &self.time.store);
+                let said = doing.said.trim_start_matches("offer ");
+                made.answer = load.map_or(String::new(), |load| self.offers.add(load, said));
+            }
+            (None, &What::How { loader, name }) => self.ask_how(doing, loader, name, &mut made),
             (None, _) => {
                 made.answer = "not made".into();
                 made.unmet = true;
@@ -233,6 +243,26 @@ impl<'a> Recorder<'a> {
         made.call = Some((call, told));
     }
 
+    /// By which of the offered loads would the request be cached? It is shown and not asked for, and no machine with a mistake answers it.
+    fn ask_how(&mut self, doing: &Doing, loader: u32, name: u16, made: &mut Made) {
+        let Some(asked) = self.offers.ask(&self.time.store, loader, name) else {
+            return;
+        };
+        made.answer.clone_from(&asked.answer);
+        self.calls += 1;
+        self.time.origins.calls += 1;
+        made.met = !doing.expected.is_empty() && doing.expected.iter().all(|expected| expected.is_met_by(&asked.found));
+        made.unmet = !doing.expected.is_empty() && !made.met;
+        if let Some(order) = &mut self.order {
+            order.tried.add(&doing.said, &asked.told(), &made.answer);
+            order.steps.push(self.steps.len());
+        }
+        match asked.lines(&self.time.store, &self.lesson.names) {
+            Ok(lines) => made.how = lines,
+            Err(_) => made.unmet = true,
+        }
+    }
+
     /// Adds a call that was made to those that are shown.
     fn show(&mut self, doing: &Doing, made: Made) {
         if self.steps.len() > MOST_SHOWN {
@@ -248,6 +278,9 @@ impl<'a> Recorder<'a> {
             step.push(("rule", json::string(&quiz::rule(number, call))));
             self.ask(doing, (call, told), before, &made, &mut step);
             self.explain(call, told, &mut step);
+        }
+        if !made.how.is_empty() {
+            step.push(("reason", json::string(&made.how.join("\n"))));
         }
         if made.carry_refused {
             step.push(("refused", "true".into()));
