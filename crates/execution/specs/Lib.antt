@@ -18,4 +18,5 @@ pub mod Reaches
 pub mod Parts
 pub mod Ahead
 pub mod Walks
+pub mod Gives
 pub mod Starts

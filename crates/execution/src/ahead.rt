@@ -33,7 +33,7 @@ pub(crate) fn last_of(counts: &[u16], more: u16, last: Answer) -> Answer
 }
 
 // Where the numbers of the opcodes of a version begin.
-fn first_number(version: u8) -> usize
+pub(crate) fn first_number(version: u8) -> usize
     ensures { λ r. ⌜ (r ≤ 512) × Numbers version (take 256 (drop r numbers)) ⌝ }
 {
     if version < VERSION_TWO {
