@@ -1,5 +1,7 @@
 // boxscript: boots a store, then reads calls from standard input, one a line, and prints the answer of each. A line that it can't read ends
 // it. Input is read into a window, which keeps the bytes of a line that is not whole yet.
+#![tactic(auto)]
+
 ghost use Rattle.std.specs.Prelude.{◌≤◌, length};
 
 use definition::numbers::{
@@ -9,14 +11,14 @@ use definition::numbers::{
 use libc::{STDIN_FILENO, STDOUT_FILENO};
 
 // How many bytes were carried out, and whether the script is over.
-#[derive(Drop)]
+#[derive(Clone, Copy)]
 struct Carried {
     read: usize,
     over: bool,
 }
 
 // How many bytes the window holds, whether the input has ended, and whether the script is over.
-#[derive(Drop)]
+#[derive(Clone, Copy)]
 struct State {
     held: usize,
     last: bool,

@@ -1,4 +1,6 @@
 // One function for every call of the machine.
+#![tactic(auto)]
+
 ghost use Rattle.std.specs.Prelude.{◌≡◌, ◌≤◌};
 ghost use Rattle.definition.specs.Tables.{tables};
 ghost use Rattle.definition.specs.Numbers.{list_limit};
@@ -9,7 +11,7 @@ use definition::Reply;
 use definition::numbers::LIST_LIMIT;
 
 // A call with its numbers; a tried load's last is the length of the list. A define's file, tried or not, is lent beside it.
-#[derive(Drop)]
+#[derive(Clone, Copy)]
 pub enum Call {
     Boot,
     Define(u32),

@@ -1,1 +1,3 @@
 // The proved cases P1 to P10: statements only.
+#![tactic(auto)]
+

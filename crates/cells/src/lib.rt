@@ -1,4 +1,6 @@
 // Cells of a table, read and written totally: a read past the end answers 0, a write past the end does nothing.
+#![tactic(auto)]
+
 pub mod arguments;
 
 ghost use Rattle.std.specs.Prelude.{◌≡◌, ◌+◌, ◌*◌, ◌<◌, get_or, set};

@@ -1,5 +1,7 @@
 // The changeover: new tables are filled from those of a first document's store, if that isn't broken by the first document's rules. The old tables are only read.
 // They are judged before a new cell is written, by today's test of the tables that would be filled and by the versions of the kept files.
+#![tactic(auto)]
+
 mod copying; // copying.rt: tables copied into others of the same lengths
 mod counts; // counts.rt: the counts that the new tables get
 mod versions; // versions.rt: whether a file of a later version is kept

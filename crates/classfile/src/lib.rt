@@ -1,5 +1,7 @@
 // Class files read off any bytes. The quick functions read fixed places and check nothing, so that they are total; `reads` checks every
 // rule of a file. Of bytes that `reads` accepts the quick functions give the file that the rules give.
+#![tactic(auto)]
+
 mod fields; // fields.rt: the version, a class's names and its fields, by their number
 mod signatures; // signatures.rt: a method's signature, by the place at which its record begins
 mod methods; // methods.rt: methods, by their number and by the place at which their record begins, and their code
@@ -13,14 +15,14 @@ pub use rules::reads;
 pub use signatures::{is_named, method_signature};
 
 // A field by its number among the file's fields.
-#[derive(Drop)]
+#[derive(Clone, Copy)]
 pub enum FieldFound {
     At(u8),
     Absent,
 }
 
 // A method by its number among the file's methods, and the place at which its record begins.
-#[derive(Drop)]
+#[derive(Clone, Copy)]
 pub enum MethodFound {
     At(u8, u32),
     Absent,

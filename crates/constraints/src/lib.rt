@@ -1,4 +1,6 @@
 // The test of agreement, and why it fails.
+#![tactic(auto)]
+
 mod joining; // joining.rt: places joined into lists by a key
 mod numbering; // numbering.rt: the requests of a store as numbers and as nodes
 mod grouping; // grouping.rt: groups of tied requests

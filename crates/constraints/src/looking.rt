@@ -17,7 +17,7 @@ use crate::upward::mark_above;
 use cells::at16;
 
 // The places from one to another, and who of them is looked at.
-#[derive(Drop)]
+#[derive(Clone, Copy)]
 pub(crate) struct Span {
     pub from: usize,
     pub end: usize,

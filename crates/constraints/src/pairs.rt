@@ -9,14 +9,14 @@ use crate::upward::is_below;
 use cells::at16;
 
 // What is found: no pair that breaks agreement, or one, from a place to another.
-#[derive(Drop)]
+#[derive(Clone, Copy)]
 pub(crate) enum Found {
     NoPair,
     Pair(usize, usize),
 }
 
 // Who is looked at: every request, those that aren't the first of their group, or those that a search has marked.
-#[derive(Drop)]
+#[derive(Clone, Copy)]
 pub(crate) enum Meets {
     Everyone,
     Members,

@@ -1,4 +1,6 @@
 // Tables copied into others of the same lengths: one function a width, and all eight.
+#![tactic(auto)]
+
 ghost use Rattle.std.specs.Prelude.{◌≡◌};
 ghost use Rattle.definition.specs.Tables.{tables};
 ghost use Rattle.copying.specs.Copied.{copied, copied_tables};

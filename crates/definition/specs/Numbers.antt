@@ -330,3 +330,19 @@ abbrev pub all_lengths : List ℕ
 all_lengths =
     counts_length ∷ classes_length ∷ kept_length ∷ cache_length ∷ ties_length ∷ subtypes_length ∷ objects_length
     ∷ frames_length ∷ kind_empty ∷ kind_int ∷ kind_null ∷ kind_object ∷ byte_range ∷ short_range ∷ int_range ∷ sign_bit ∷ []
+
+-- Those that stood before offers were searched
+abbrev pub all_numbers : List ℕ
+all_numbers =
+    word_broken ∷ word_file ∷ word_unknown ∷ word_taken ∷ word_wanted ∷ word_unverified
+    ∷ word_absent ∷ word_hidden ∷ word_clash ∷ word_full ∷ word_null ∷ word_busy
+    ∷ word_misnamed ∷ word_stuck ∷ word_unmapped ∷ word_short ∷ word_divisor ∷ word_share ∷ word_late ∷ name_int ∷ name_object ∷ loader_limit ∷ task_limit
+    ∷ class_limit ∷ kept_limit ∷ cache_limit ∷ tie_limit ∷ subtype_limit ∷ object_limit ∷ share_limit
+    ∷ field_limit ∷ frame_limit ∷ operand_limit ∷ local_count ∷ run_limit ∷ trace_limit ∷ list_limit ∷ version_one ∷ version_two ∷ version_three
+    ∷ file_limit ∷ member_limit ∷ argument_limit ∷ code_limit ∷ count_classes ∷ count_kept ∷ count_cache
+    ∷ count_ties ∷ count_subtypes ∷ count_objects ∷ count_frames ∷ owners_cell ∷ tie_numbers_cell ∷ subtype_numbers_cell ∷ loads_cell ∷ trace_cell ∷ level_cells ∷ groups_cell ∷ row_cells ∷ value_cells
+    ∷ fields_cell ∷ object_cells ∷ method_cell ∷ point_cell ∷ depth_cell ∷ locals_cell
+    ∷ operands_cell ∷ frame_cells ∷ counts_length ∷ classes_length ∷ kept_length ∷ cache_length
+    ∷ ties_length ∷ subtypes_length ∷ objects_length ∷ frames_length ∷ kind_empty ∷ kind_int
+    ∷ kind_null ∷ kind_object ∷ byte_range ∷ short_range ∷ int_range ∷ sign_bit
+    ∷ []

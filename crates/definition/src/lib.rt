@@ -1,15 +1,17 @@
 // The answers and instructions of the tariff class machine, as values that code and definitions share.
+#![tactic(auto)]
+
 pub mod numbers;
 
 // What a call refuses with: the class it wants, as a loader and a name (word 5), or another word by its number.
-#[derive(Drop)]
+#[derive(Clone, Copy)]
 pub enum Refusal {
     Wanted(u8, u16),
     Word(u8),
 }
 
 // What a step answers. A task is 0, the quote, or 1, the report; an int is its 32 bits.
-#[derive(Drop)]
+#[derive(Clone, Copy)]
 pub enum Answer {
     Idle,
     Ran(u8),
@@ -19,7 +21,7 @@ pub enum Answer {
 
 // What a call answers: define its class's number, a step its answer, a run its count of steps that ran and the last answer, a sweep the
 // number of objects that it freed.
-#[derive(Drop)]
+#[derive(Clone, Copy)]
 pub enum Reply {
     Accepted,
     Defined(u8),
@@ -30,7 +32,7 @@ pub enum Reply {
 }
 
 // What a tried load answers: the load's reply, and how many rows the listed chain has.
-#[derive(Drop)]
+#[derive(Clone, Copy)]
 pub struct Trial {
     pub reply: Reply,
     pub count: u16,
@@ -38,14 +40,14 @@ pub struct Trial {
 
 // What the check of agreement answers: none, where the store agrees, or a pair of loaded requests that breaks agreement, from the one to the
 // other, each by its loader and its name.
-#[derive(Drop)]
+#[derive(Clone, Copy)]
 pub enum Check {
     Agreed,
     Breaking(u16, u16, u16, u16),
 }
 
 // A call's answer as numbers: the refusal's number, 0 if there is none, then three details. An int is its 32 bits.
-#[derive(Drop)]
+#[derive(Clone, Copy)]
 pub struct Details {
     pub refusal: u8,
     pub one: u32,
@@ -54,7 +56,7 @@ pub struct Details {
 }
 
 // The types of a method's arguments in their order: none to four.
-#[derive(Drop)]
+#[derive(Clone, Copy)]
 pub enum Arguments {
     NoArguments,
     OneArgument(u16),
@@ -64,7 +66,7 @@ pub enum Arguments {
 }
 
 // A method's signature: its name, its arguments' types and its result's.
-#[derive(Drop)]
+#[derive(Clone, Copy)]
 pub struct Signature {
     pub name: u16,
     pub arguments: Arguments,
@@ -72,14 +74,14 @@ pub struct Signature {
 }
 
 // Whether a value is an int, or a reference: null or an object.
-#[derive(Drop)]
+#[derive(Clone, Copy)]
 pub enum Kind {
     IntKind,
     ReferenceKind,
 }
 
 // What arithmetic does with two ints.
-#[derive(Drop)]
+#[derive(Clone, Copy)]
 pub enum Operator {
     Add,
     Subtract,
@@ -88,7 +90,7 @@ pub enum Operator {
 }
 
 // When a branch jumps: always; if the int on top is 0; if the lower of two ints is less than the upper.
-#[derive(Drop)]
+#[derive(Clone, Copy)]
 pub enum Condition {
     Always,
     IfZero,
@@ -97,7 +99,7 @@ pub enum Condition {
 
 // What an opcode byte is: load, store and return go by a kind, arithmetic by an operator, a branch by its condition. invokevirtual has one argument type
 // inline before version 3, a list from there on.
-#[derive(Drop)]
+#[derive(Clone, Copy)]
 pub enum Opcode {
     OpAconstNull,
     OpSipush,
@@ -118,7 +120,7 @@ pub enum Opcode {
 
 // An instruction: its opcode and what stands inline. A local is its number, the int of sipush its 32 bits, a branch's target an offset from the
 // start of its method's code, the others names and a signature.
-#[derive(Drop)]
+#[derive(Clone, Copy)]
 pub enum Instruction {
     AconstNull,
     Sipush(u32),

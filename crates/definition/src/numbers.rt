@@ -1,7 +1,7 @@
 // The numbers that the paper and docs/STORE.md fix, each named once, for code. specs/Numbers.antt has the same names for definitions;
 // `all_words`, `all_limits`, `all_cells` and `all_lengths` promise that the two are equal.
 ghost use Rattle.std.specs.Prelude.{◌≡◌};
-ghost use Rattle.definition.specs.Numbers.{all_words, all_limits, all_cells, all_lengths};
+ghost use Rattle.definition.specs.Numbers.{all_numbers, all_words, all_limits, all_cells, all_lengths};
 
 // Words of refusal.
 pub const WORD_BROKEN: u8 = 1;
@@ -293,6 +293,98 @@ pub fn all_lengths() -> [u64; 16]
     ensures { result ≡ all_lengths }
 {
     [
+        COUNTS_LENGTH as u64,
+        CLASSES_LENGTH as u64,
+        KEPT_LENGTH as u64,
+        CACHE_LENGTH as u64,
+        TIES_LENGTH as u64,
+        SUBTYPES_LENGTH as u64,
+        OBJECTS_LENGTH as u64,
+        FRAMES_LENGTH as u64,
+        KIND_EMPTY as u64,
+        KIND_INT as u64,
+        KIND_NULL as u64,
+        KIND_OBJECT as u64,
+        BYTE_RANGE as u64,
+        SHORT_RANGE as u64,
+        INT_RANGE as u64,
+        SIGN_BIT as u64,
+    ]
+}
+
+// The numbers that the base and the first papers have, in the order of their names in specs/Numbers.antt.
+pub fn all_numbers() -> [u64; 84]
+    ensures { result ≡ all_numbers }
+{
+    [
+        WORD_BROKEN as u64,
+        WORD_FILE as u64,
+        WORD_UNKNOWN as u64,
+        WORD_TAKEN as u64,
+        WORD_WANTED as u64,
+        WORD_UNVERIFIED as u64,
+        WORD_ABSENT as u64,
+        WORD_HIDDEN as u64,
+        WORD_CLASH as u64,
+        WORD_FULL as u64,
+        WORD_NULL as u64,
+        WORD_BUSY as u64,
+        WORD_MISNAMED as u64,
+        WORD_STUCK as u64,
+        WORD_UNMAPPED as u64,
+        WORD_SHORT as u64,
+        WORD_DIVISOR as u64,
+        WORD_SHARE as u64,
+        WORD_LATE as u64,
+        NAME_INT as u64,
+        NAME_OBJECT as u64,
+        LOADER_LIMIT as u64,
+        TASK_LIMIT as u64,
+        CLASS_LIMIT as u64,
+        KEPT_LIMIT as u64,
+        CACHE_LIMIT as u64,
+        TIE_LIMIT as u64,
+        SUBTYPE_LIMIT as u64,
+        OBJECT_LIMIT as u64,
+        SHARE_LIMIT as u64,
+        FIELD_LIMIT as u64,
+        FRAME_LIMIT as u64,
+        OPERAND_LIMIT as u64,
+        LOCAL_COUNT as u64,
+        RUN_LIMIT as u64,
+        TRACE_LIMIT as u64,
+        LIST_LIMIT as u64,
+        VERSION_ONE as u64,
+        VERSION_TWO as u64,
+        VERSION_THREE as u64,
+        FILE_LIMIT as u64,
+        MEMBER_LIMIT as u64,
+        ARGUMENT_LIMIT as u64,
+        CODE_LIMIT as u64,
+        COUNT_CLASSES as u64,
+        COUNT_KEPT as u64,
+        COUNT_CACHE as u64,
+        COUNT_TIES as u64,
+        COUNT_SUBTYPES as u64,
+        COUNT_OBJECTS as u64,
+        COUNT_FRAMES as u64,
+        OWNERS_CELL as u64,
+        TIE_NUMBERS_CELL as u64,
+        SUBTYPE_NUMBERS_CELL as u64,
+        LOADS_CELL as u64,
+        TRACE_CELL as u64,
+        LEVEL_CELLS as u64,
+        GROUPS_CELL as u64,
+        ROW_CELLS as u64,
+        VALUE_CELLS as u64,
+        FIELDS_CELL as u64,
+        OBJECT_CELLS as u64,
+        METHOD_CELL as u64,
+        POINT_CELL as u64,
+        DEPTH_CELL as u64,
+        LOCALS_CELL as u64,
+        OPERANDS_CELL as u64,
+        FRAME_CELLS as u64,
         COUNTS_LENGTH as u64,
         CLASSES_LENGTH as u64,
         KEPT_LENGTH as u64,

@@ -1,4 +1,6 @@
 // The publishers' desk: the file and verifier checks of a byte range, for a program in C.
+#![tactic(auto)]
+
 ghost use Rattle.std.specs.Prelude.{◌≡◌, true, set};
 ghost use Rattle.std.proofs.Math.Option.{none};
 ghost use Rattle.definition.specs.Lists.{is_some, write_rows};
@@ -32,7 +34,7 @@ pub extern "C" fn tariff_check(bytes: &[u8]) -> u8
 }
 
 // The desk's number, and the place of a 6 or 15.
-#[derive(Drop)]
+#[derive(Clone, Copy)]
 struct Verdict {
     number: u8,
     method: u8,

@@ -3,6 +3,8 @@
 //
 // The input is cells of four bytes, big-endian: how many cells of the counts, of the list and of the answers are lent (as many as there are,
 // if it says more), then the list. The files' bytes are the whole input, filled up with zeros to 65,536.
+#![tactic(auto)]
+
 ghost use Rattle.std.specs.Prelude.{◌≤◌};
 
 use definition::numbers::{

@@ -1,4 +1,6 @@
 // A list of calls driven from boot: one function whose contract says that what it leaves is safe.
+#![tactic(auto)]
+
 ghost use Rattle.std.specs.Prelude.{◌≡◌, List, ℕ, ◌+◌, ◌*◌, ◌<◌, ◌≤◌, length, leb};
 ghost use Rattle.std.proofs.Math.Option.{none, some};
 ghost use Rattle.definition.specs.Instructions.{pick};
@@ -22,21 +24,21 @@ const ANSWER_CELLS: usize = 3;
 const WANTED: u32 = WORD_WANTED as u32;
 
 // Boot refused the tables, or so many calls were performed.
-#[derive(Drop)]
+#[derive(Clone, Copy)]
 pub enum Outcome {
     Refused,
     Performed(usize),
 }
 
 // A row of the list, as it was read: no call, or a call with its numbers.
-#[derive(Drop)]
+#[derive(Clone, Copy)]
 enum Row {
     Unreadable,
     Readable(Call),
 }
 
 // What is told of an answer: its number, the number that a run ends in, and the count of steps that ran.
-#[derive(Drop)]
+#[derive(Clone, Copy)]
 struct Told {
     number: u32,
     end: u32,

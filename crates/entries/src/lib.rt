@@ -1,4 +1,6 @@
 // Cells and rows written one after another, a cache with one more entry on copies, and the trace of loads: what every call that loads goes by.
+#![tactic(auto)]
+
 mod trace; // trace.rt: a load remembered
 
 ghost use Rattle.std.specs.Prelude.{◌≡◌, ℕ, ◌+◌, ◌-◌, ◌<◌, ◌≤◌, List, slice_set};

@@ -36,7 +36,7 @@ fn are_kinds(frames: &[u32], b: u32, k: u32, n: u32, bits: u32) -> bool
 }
 
 // What is remembered of a call, its receiver and how many arguments it has.
-#[derive(Drop)]
+#[derive(Clone, Copy)]
 pub(crate) struct Call {
     pub known: bool,
     pub fact: u32,

@@ -72,7 +72,7 @@ fn go_over(
 }
 
 // How many steps were done, the number of the opcode before which they ended, 0 if that isn't known, and what the next new object asks for.
-#[derive(Drop)]
+#[derive(Clone, Copy)]
 pub(crate) struct Stretch {
     pub steps: u16,
     pub stop: u8,

@@ -110,7 +110,7 @@ pub(crate) fn next_room(counts: &[u16], room: Room, turn: u8) -> Room
 }
 
 // A name that stands inline at the point of a frame, with the frame's class and the point.
-#[derive(Drop)]
+#[derive(Clone, Copy)]
 pub(crate) struct Name {
     pub known: bool,
     pub class: u32,
@@ -273,7 +273,7 @@ pub(crate) fn note_new(
 }
 
 // Whether a step was done, and what the next new object asks for.
-#[derive(Drop)]
+#[derive(Clone, Copy)]
 pub(crate) struct Taken {
     pub on: bool,
     pub free: u16,

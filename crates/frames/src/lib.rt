@@ -1,4 +1,6 @@
 // Cells of frames and objects, read and written totally. A frame's row begins at cell b; a value is a kind and 32 bits.
+#![tactic(auto)]
+
 mod owners; // owners.rt: owners of object rows
 
 ghost use Rattle.std.specs.Prelude.{◌≡◌, ◌+◌, ◌*◌, ◌<◌, get_or, set};
@@ -21,14 +23,14 @@ const TASK_ROWS: u32 = FRAME_LIMIT as u32;
 const ROW_SIZE: u32 = FRAME_CELLS as u32;
 
 // A value's two cells.
-#[derive(Drop)]
+#[derive(Clone, Copy)]
 pub struct Cell {
     pub kind: u32,
     pub bits: u32,
 }
 
 // A frame to be entered: a class and its method, the object that is this, and four arguments, of which those that the method hasn't are empty.
-#[derive(Drop)]
+#[derive(Clone, Copy)]
 pub struct Entry {
     pub class: u32,
     pub method: u32,
@@ -40,7 +42,7 @@ pub struct Entry {
 }
 
 // The top frame of a task: its row, the cell at which that row begins, its number of operands, and the loader of its class.
-#[derive(Drop)]
+#[derive(Clone, Copy)]
 pub struct Top {
     pub task: u8,
     pub row: u16,

@@ -1,4 +1,6 @@
 // Groups of tied requests, made of rows of ties.
+#![tactic(auto)]
+
 mod names; // names.rt: the first row of each row's name
 mod uniting; // uniting.rt: roots of rows, and groups made one
 mod claims; // claims.rt: which row named a request

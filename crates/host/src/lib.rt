@@ -1,6 +1,8 @@
 // The calls of the machine for a host program in C. Each takes the eight tables, the call's numbers or file, and a table of six cells
 // for the answer: the kind of the reply, the refusal's number, three details as a script's line prints them, and the count of steps that ran,
 // or of a tried load the length of the chain that it listed. A search that finds an order fills eight cells more.
+#![tactic(auto)]
+
 ghost use Rattle.std.specs.Prelude.{◌≡◌, List, [], ◌∷◌, ℕ, ◌-◌, get_or, set};
 ghost use Rattle.definition.specs.Lists.{write_rows};
 ghost use Rattle.definition.specs.Answers.{count_of, number_of};

@@ -1,4 +1,6 @@
 // Instructions that touch their own frame alone, and returns: each function decides on the frame's cells and answers a plan.
+#![tactic(auto)]
+
 mod ints; // ints.rt: products and quotients of ints, by their bits
 
 ghost use Rattle.std.specs.Prelude.{◌≡◌, ℕ, List};
@@ -16,7 +18,7 @@ use frames::{Cell, Top};
 
 // A method to be invoked: a class and its method, the object that is this, and how many arguments it has. Their values stay where they are until the frame
 // is entered: among the operands, behind the receiver, which is the first that doesn't stay.
-#[derive(Drop)]
+#[derive(Clone, Copy)]
 pub struct Invocation {
     pub class: u32,
     pub method: u32,
@@ -25,7 +27,7 @@ pub struct Invocation {
 }
 
 // What a step is going to do. d operands stay; a value is its two cells.
-#[derive(Drop)]
+#[derive(Clone, Copy)]
 pub enum Plan {
     // A refusal.
     Refuse(Refusal),

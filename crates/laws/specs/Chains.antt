@@ -84,6 +84,7 @@ module _ {A : Type 0} {same : A → A → Bool} (tells : Tells same) where
   has-member x (y ∷ R) h = elim (has-cases x y R h) [ inl e ↦ Memᴰ.head e | inr q ↦ Memᴰ.tail (has-member x R q) ]
 
   pub member-has : (x : A) (R : List A) → Memᴰ x R → has same x R ≡ true
+  member-has x [] never = elim never [ ]
   member-has x (y ∷ R) (Memᴰ.head e) = has-head x y R e
   member-has x (y ∷ R) (Memᴰ.tail m) = has-tail x y R (member-has x R m)
 
@@ -91,6 +92,7 @@ module _ {A : Type 0} {same : A → A → Bool} (tells : Tells same) where
 
   pub fires-hit : (R : List A) (E : List (Edge A)) (e : Edge A) → Memᴰ e E → has same e.from R ≡ true → has same e.to (fires same R E) ≡ true
   unfolding fires
+  fires-hit R [] e never h = elim never [ ]
   fires-hit R (d ∷ E) e (Memᴰ.head q) h = rw (ap (λ (z : Edge A). has same z.from R) (sym q) ∙ h, fires) (has-head e.to d.to (fires same R E) (ap (λ (z : Edge A). z.to) q))
   fires-hit R (d ∷ E) e (Memᴰ.tail m) h = go (has same d.from R) (fires-hit R E e m h)
     where
@@ -125,6 +127,7 @@ module _ {A : Type 0} {same : A → A → Bool} (tells : Tells same) where
 
   pub rest-keeps : (R : List A) (E : List (Edge A)) (e : Edge A) → Memᴰ e E → has same e.from R ≡ false → Memᴰ e (rest same R E)
   unfolding rest
+  rest-keeps R [] e never h = elim never [ ]
   rest-keeps R (d ∷ E) e (Memᴰ.head q) h = rw (ap (λ (z : Edge A). has same z.from R) (sym q) ∙ h, rest) (Memᴰ.head q)
   rest-keeps R (d ∷ E) e (Memᴰ.tail m) h = go (has same d.from R) (rest-keeps R E e m h)
     where

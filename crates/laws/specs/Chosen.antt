@@ -25,6 +25,7 @@ use Rattle.laws.specs.Clashes.{Clashing, First, shortest-first, shortest-none}
 -- A list none of which stands twice is no longer than one that has all of it
 
 without : {A : Type 0} {x : A} (ys : List A) → Memᴰ x ys → List A
+without {A = A} [] never = elim never [ ]
 without (y ∷ ys) (Memᴰ.head e) = ys
 without (y ∷ ys) (Memᴰ.tail m) = y ∷ without ys m
 
@@ -56,10 +57,12 @@ abbrev edges_of : List Link → List (Edge Request)
 edges_of L = map (λ (l : Link). l.edge) L
 
 link-edge : (L : List Link) (l : Link) → Memᴰ l L → Memᴰ l.edge (edges_of L)
+link-edge [] l never = elim never [ ]
 link-edge (k ∷ L) l (Memᴰ.head e) = Memᴰ.head (ap (λ (z : Link). z.edge) e)
 link-edge (k ∷ L) l (Memᴰ.tail m) = Memᴰ.tail (link-edge L l m)
 
 edge-link : (L : List Link) (e : Edge Request) → Memᴰ e (edges_of L) → (n : ℕ) × Memᴰ (record { row = n; edge = e }) L
+edge-link [] e never = elim never [ ]
 edge-link (k ∷ L) e (Memᴰ.head q) = (k.row, Memᴰ.head (λ i. record { row = k.row; edge = q i }))
 edge-link (k ∷ L) e (Memᴰ.tail m) = let r = edge-link L e m in (r.0, Memᴰ.tail r.1)
 
@@ -110,6 +113,7 @@ up_ends L a (q ∷ qs) [] b u = absurd u
 up_ends L a (q ∷ qs) (n ∷ ns) b u = let r = up_ends L q qs ns b u.1 in (ap suc r.0, λ x m. into x m r.1)
   where
     end : (M : List Link) (l : Link) → Memᴰ l M → Memᴰ l.edge.to (map (λ (l : Link). l.edge.to) M)
+    end [] l never = elim never [ ]
     end (k ∷ M) l (Memᴰ.head e) = Memᴰ.head (ap (λ (z : Link). z.edge.to) e)
     end (k ∷ M) l (Memᴰ.tail m) = Memᴰ.tail (end M l m)
 
@@ -127,6 +131,7 @@ tie-link : (w : World) (m : RowNumbers) (l : Link) → Memᴰ l (ties_only w m) 
 tie-link w m l h = left (ties_only w m) h
   where
     left : (L : List Link) → Memᴰ l L → Memᴰ l (L ++ subtype_links w.subtypes m.subtypes)
+    left [] never = elim never [ ]
     left (k ∷ L) (Memᴰ.head e) = Memᴰ.head e
     left (k ∷ L) (Memᴰ.tail n) = Memᴰ.tail (left L n)
 

@@ -190,6 +190,7 @@ module _ {before : ℕ → ℕ → Bool} (order : Order before) where
 
     pub first-has : (xs : List A) (x : A) (ns : List ℕ) → Memᴰ x xs → f x ≡ some ns → Has (first_of before f xs) ns
     unfolding first_of
+    first-has [] x ns never h = elim never [ ]
     first-has (y ∷ xs) x ns (Memᴰ.head e) h = earlier-one (f y) (first_of before f xs) ns (rw e at h)
     first-has (y ∷ xs) x ns (Memᴰ.tail m) h = let r = first-has xs x ns m h in has_on (earlier before (f y) (first_of before f xs)) ns r.0 r.2 (earlier-two (f y) (first_of before f xs) r.0 r.1)
 

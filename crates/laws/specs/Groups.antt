@@ -187,6 +187,7 @@ named-later u ts a h = (h.0, Memᴰ.tail h.1, h.2)
 -- the tie's edge, from its two to its one
 back-edge : (ts : List Tie) (t : Tie) → Memᴰ t ts → Memᴰ (record { from = two_of t; to = one_of t }) (tie_edges ts)
 unfolding tie_edges
+back-edge [] t never = elim never [ ]
 back-edge (u ∷ ts) t (Memᴰ.head q) = Memᴰ.tail (Memᴰ.head (ap (λ (z : Tie). record { from = two_of z; to = one_of z }) q))
 back-edge (u ∷ ts) t (Memᴰ.tail m) = Memᴰ.tail (Memᴰ.tail (back-edge ts t m))
 
@@ -204,6 +205,7 @@ edge-named (t ∷ ts) e (Memᴰ.tail (Memᴰ.head q)) = (t, Memᴰ.head refl, in
 edge-named (t ∷ ts) e (Memᴰ.tail (Memᴰ.tail m)) = named-later t ts e.to (edge-named ts e m)
 
 row_of : {A : Type 0} (xs : List A) (x : A) → Memᴰ x xs → (i : ℕ) × (get_elem? xs i ≡ some x)
+row_of {A = A} [] x never = elim never [ ]
 row_of (y ∷ xs) x (Memᴰ.head q) = (0, ap some (sym q))
 row_of (y ∷ xs) x (Memᴰ.tail m) = let r = row_of xs x m in (suc r.0, r.1)
 

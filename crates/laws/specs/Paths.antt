@@ -27,12 +27,14 @@ use Rattle.laws.specs.Mapped.{AllMapped, HasMap, Mapped, all-mapped}
 -- of lists that stand together each is there
 together-each : (os : List (Option (List Note))) (ns : List Note) → together os ≡ some ns → (o : Option (List Note)) → Memᴰ o os → (a : List Note) × (o ≡ some a)
 unfolding together
+together-each [] ns h x never = elim never [ ]
 together-each (o ∷ os) ns h x (Memᴰ.head z) = let a = bind-some _ _ h in (a.0, z ∙ a.1)
 together-each (o ∷ os) ns h x (Memᴰ.tail m) = let a = bind-some _ _ h in let b = bind-some _ _ a.2 in together-each os b.0 b.1 x m
 
 -- a map of the list is found at its offset, or an earlier one there
 map_found : (ms : List Map) (x : Map) → Memᴰ x ms → (y : Map) × (map_at ms x.offset ≡ some y)
 unfolding map_at
+map_found [] x never = elim never [ ]
 map_found (m ∷ ms) x (Memᴰ.head z) = (m, rw (eq-eqb m.offset x.offset (ap (λ (y : Map). y.offset) (sym z)), map_at) refl)
 map_found (m ∷ ms) x (Memᴰ.tail t) = go (eqb m.offset x.offset) refl (map_found ms x t)
   where

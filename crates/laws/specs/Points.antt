@@ -43,6 +43,7 @@ module _ (version : ℕ) (code : List ℕ) where
     where
       go : (o : Option Decoded) → decode version code p ≡ o → Memᴰ q (elim o as (λ _. List ℕ) [ none ↦ [] | some i ↦ p ∷ points_from version code n (p + i.size) ])
           → (i : Decoded) × (decode version code p ≡ some i) × ((q ≡ p) ⊎ Memᴰ q (points_from version code n (p + i.size)))
+      go none e never = elim never [ ]
       go (some i) e x = (i, e, mathlib.Core.List.Memᴰ.cases_cons x)
 
   pub no-points : {A : Type 0} (p q : ℕ) → Memᴰ q (points_from version code zero p) → A

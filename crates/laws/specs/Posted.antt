@@ -48,6 +48,7 @@ itself l n ss rs = any-right (subtype_is l n) ss (subtype_of l n ∷ rs) (unfold
 -- each note is there afterwards
 pub posted-there : (ss : List Subtype) (l : ℕ) (ns : List Note) (n : Note) → Memᴰ n ns → any (subtype_is l n) (ss ++ new_subtypes ss l ns) ≡ true
 unfolding new_subtypes
+posted-there ss l [] n never = elim never [ ]
 posted-there ss l (x ∷ ns) n m = go (any (subtype_is l x) ss) refl m (λ z t. posted-there z l ns n t)
   where
     New : Bool → List Subtype

@@ -16,6 +16,7 @@ Rises o [] = Unit {0}
 Rises o (x ∷ xs) = (o ≤ x.offset) × Rises (suc x.offset) xs
 
 pub rises-at : (o : ℕ) (xs : List Map) → Rises o xs → (x : Map) → Memᴰ x xs → o ≤ x.offset
+rises-at o [] h x never = elim never [ ]
 rises-at o (y ∷ xs) h x (Memᴰ.head z) = let e : x.offset ≡ y.offset = ap (λ (a : Map). a.offset) z in omega (arith, h.0)
 rises-at o (y ∷ xs) h x (Memᴰ.tail m) = omega (arith, h.0, rises-at (suc y.offset) xs h.1 x m)
 

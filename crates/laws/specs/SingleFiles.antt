@@ -82,6 +82,7 @@ effect-before version h code p i e s = effect_is i.instruction (holds_at (λ j. 
 -- the types at point 0 of a method of such a file
 
 single-at : (ms : List Method) → Singles ms → (m : Method) → Memᴰ m ms → Single m.signature
+single-at [] h m never = elim never [ ]
 single-at (x ∷ ms) h m (Memᴰ.head z) = rw z h.0
 single-at (x ∷ ms) h m (Memᴰ.tail t) = single-at ms h.1 m t
 

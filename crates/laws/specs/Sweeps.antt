@@ -32,6 +32,7 @@ reached-found os fs o r = chain-reached numbers (links os) (roots fs) r.root o (
 -- Links go from an object that exists to those that its values name
 
 pub member-left : {A : Type 0} {x : A} (xs ys : List A) → Memᴰ x xs → Memᴰ x (xs ++ ys)
+member-left {A = A} [] ys never = elim never [ ]
 member-left (y ∷ xs) ys (mathlib.Core.List.Memᴰ.head e) = mathlib.Core.List.Memᴰ.head e
 member-left (y ∷ xs) ys (mathlib.Core.List.Memᴰ.tail m) = mathlib.Core.List.Memᴰ.tail (member-left xs ys m)
 
@@ -65,6 +66,7 @@ abbrev link : ℕ → ℕ → Edge ℕ
 link o p = record { from = o; to = p }
 
 own-link : (o p : ℕ) (ps : List ℕ) → Memᴰ p ps → Memᴰ (link o p) (map (link o) ps)
+own-link o p [] never = elim never [ ]
 own-link o p (q ∷ ps) (mathlib.Core.List.Memᴰ.head e) = mathlib.Core.List.Memᴰ.head (ap (link o) e)
 own-link o p (q ∷ ps) (mathlib.Core.List.Memᴰ.tail m) = mathlib.Core.List.Memᴰ.tail (own-link o p ps m)
 

@@ -31,6 +31,7 @@ any-true {A} f (x ∷ xs) h = go (f x) refl h (any-true f xs)
 
 pub any_false : {A : Type 0} (f : A → Bool) (xs : List A) → any f xs ≡ false → (x : A) → Memᴰ x xs → f x ≡ false
 unfolding any
+any_false {A = A} f [] h x never = elim never [ ]
 any_false {A} f (y ∷ xs) h x m = go (f y) refl h m (any_false f xs)
   where
     go : (t : Bool) → f y ≡ t → (elim t as (λ _. Bool) [ true ↦ true | false ↦ any f xs ]) ≡ false → Memᴰ x (y ∷ xs) → (any f xs ≡ false → (z : A) → Memᴰ z xs → f z ≡ false) → f x ≡ false
@@ -59,6 +60,7 @@ any_append f (x ∷ xs) ys = go (f x) (any_append f xs ys)
 
 pub any-there : {A : Type 0} (f : A → Bool) (xs : List A) (x : A) → Memᴰ x xs → f x ≡ true → any f xs ≡ true
 unfolding any
+any-there {A = A} f [] x never h = elim never [ ]
 any-there f (y ∷ xs) x (Memᴰ.head z) h = let e : f y ≡ true = rw z at h in rw (e, any) refl
 any-there f (y ∷ xs) x (Memᴰ.tail m) h = any-right f (y ∷ []) xs (any-there f xs x m h)
 

@@ -165,6 +165,7 @@ tied-after ts l m n p q = ap (λ (us : List Tie). any (tie_is l m n) (ts ++ us))
 
 pub ties-there : (ts : List Tie) (l m : ℕ) (ns : List ℕ) (n : ℕ) → Memᴰ n ns → (l ≡ m → ⊥) → (n ≡ name_int → ⊥) → any (tie_is l m n) (ts ++ new_ties ts l m ns) ≡ true
 unfolding new_ties
+ties-there ts l m [] n never p q = elim never [ ]
 ties-there ts l m (x ∷ ns) n (Memᴰ.head z) p q =
     let us = new_tie ts l m x in
     let h : any (tie_is l m n) (ts ++ us) ≡ true = rw z (tied-after ts l m x p (λ e. q (z ∙ e))) in
@@ -238,6 +239,7 @@ overrides-in-turn b l p ts (m ∷ ms) ns =
 pub overrides-there : (b : Base) (l p : ℕ) (ts : List Tie) (ms : List Method) (m : Method) (y : Selected) (n : ℕ) → Memᴰ m ms → selected b m.signature p ≡ some y
     → Memᴰ n (signature_types m.signature) → (l ≡ loader_of b y.class → ⊥) → (n ≡ name_int → ⊥) → any (tie_is l (loader_of b y.class) n) (ts ++ override_ties b l p ts ms) ≡ true
 unfolding override_ties
+overrides-there b l p ts [] m y n never e k d q = elim never [ ]
 overrides-there b l p ts (x ∷ ms) m y n (Memᴰ.head z) e k d q =
     let us = override_tie b l p ts x.signature in
     let f = tie_is l (loader_of b y.class) n in

@@ -266,6 +266,8 @@ module _ (version : ℕ) (code : List ℕ) (maps : List Map) (result : ℕ) wher
         flows i e a = each (target i.instruction) refl (goes_on i.instruction) refl
           where
             straight : (p : ℕ) (b : Bool) → goes_on i.instruction ≡ b → Memᴰ p (elim b as (λ _. List ℕ) [ true ↦ (q + i.size) ∷ [] | false ↦ [] ]) → Into version code maps result types ns p e.f.types
+            straight p true g (Memᴰ.tail never) = elim never [ ]
+            straight p false g never = elim never [ ]
             straight p true g (Memᴰ.head z) = elim a.then [
               | inl (y, n) ↦ rw z (record { flows = n.g; does = n.does; posted = λ x m. d.posted x (n.posted x m); has = d.next (q + i.size) n.g.types n.onward })
               | inr (y, n) ↦ absurd (false≢true (sym y ∙ g))

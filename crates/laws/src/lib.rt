@@ -1,1 +1,3 @@
 // Laws of the definitions: proofs only.
+#![tactic(auto)]
+

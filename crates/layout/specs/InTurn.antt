@@ -140,6 +140,7 @@ rises-less j k [] l h = tt
 rises-less j k (x ∷ xs) l h = (omega (arith, h.0), h.1)
 
 rises-at : (k : ℕ) (xs : List ℕ) → RisesFrom k xs → (i : ℕ) → Memᴰ i xs → k ≤ i
+rises-at k [] h i never = elim never [ ]
 rises-at k (x ∷ xs) h i (Memᴰ.head e) = omega (arith, h.0, e)
 rises-at k (x ∷ xs) h i (Memᴰ.tail m) = omega (arith, h.0, rises-at (suc x) xs h.1 i m)
 

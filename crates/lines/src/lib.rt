@@ -1,4 +1,6 @@
 // Lines of a script carried out: a call is read off a line's bytes, made, and its answer printed.
+#![tactic(auto)]
+
 ghost use Rattle.std.specs.Prelude.{◌≡◌, ◌≤◌, length};
 ghost use Rattle.definition.specs.Tables.{tables};
 ghost use Rattle.definition.specs.Calls.{perform};
@@ -15,28 +17,28 @@ use calls::Call;
 use script::Command;
 
 // The call that a line asks for and the length of its file, or none.
-#[derive(Drop)]
+#[derive(Clone, Copy)]
 enum Asked {
     Calls(Call, usize),
     Nothing,
 }
 
 // What a line left: how many bytes it printed, or that it can't be read.
-#[derive(Drop)]
+#[derive(Clone, Copy)]
 pub enum Outcome {
     Printed(usize),
     Unreadable,
 }
 
 // The first line of an input: how many bytes it has, and how many with its end; or that it is not ready.
-#[derive(Drop)]
+#[derive(Clone, Copy)]
 enum Next {
     Line(usize, usize),
     NotYet,
 }
 
 // How far an input was carried out: bytes read, bytes written, and whether a line couldn't be read.
-#[derive(Drop)]
+#[derive(Clone, Copy)]
 pub struct Progress {
     pub read: usize,
     pub written: usize,

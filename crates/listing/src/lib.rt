@@ -1,4 +1,6 @@
 // A row of constraints by its number, as the tries list them: what it says.
+#![tactic(auto)]
+
 ghost use Rattle.std.specs.Prelude.{◌≡◌, ℕ, ◌<◌};
 ghost use Rattle.definition.specs.Numbers.{short_range};
 ghost use Rattle.definition.specs.Lists.{rows};
@@ -15,7 +17,7 @@ use definition::numbers::{
 };
 
 // What is said of a number: a refusal; a tie, by its two loaders and the name; a subtype constraint, by its loader, the lower name and the higher.
-#[derive(Drop)]
+#[derive(Clone, Copy)]
 pub enum Listed {
     Denied(Refusal),
     Tied(u16, u16, u16),

@@ -1,5 +1,7 @@
 // The calls that load classes and clear tasks: boot and drop, define and record, and the tries of both. A load is admitted or refused on tables that are only
 // read, decided by agreement, and then carried out.
+#![tactic(auto)]
+
 mod loads; // loads.rt: a load, what it adds, and what is decided of it
 mod superclasses; // superclasses.rt: the direct superclass of a new class
 mod overrides; // overrides.rt: the ties of methods that override

@@ -2,7 +2,7 @@
 use definition::Refusal;
 
 // A load: a define, whose file is lent beside it, or a record. Numbers are as the host gives them.
-#[derive(Drop)]
+#[derive(Clone, Copy)]
 pub(crate) enum Load {
     Define(u32),
     Record(u32, u32, u32),
@@ -10,7 +10,7 @@ pub(crate) enum Load {
 
 // The newcomer, what a load adds: an entry of the cache, by loader, name and class. If the class is new too, `above` is its direct superclass's number and 1,
 // else 0. With the newcomer there are so many ties and subtype constraints.
-#[derive(Drop)]
+#[derive(Clone, Copy)]
 pub(crate) struct Newcomer {
     pub(crate) loader: u8,
     pub(crate) name: u16,
@@ -21,7 +21,7 @@ pub(crate) struct Newcomer {
 }
 
 // What is decided of a load: it is refused, it changes nothing, or a newcomer is to be added.
-#[derive(Drop)]
+#[derive(Clone, Copy)]
 pub(crate) enum Plan {
     Refuse(Refusal),
     Keep,

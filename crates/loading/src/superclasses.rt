@@ -10,7 +10,7 @@ use definition::numbers::WORD_TAKEN;
 use resolution::Found;
 
 // The direct superclass of a class that is to be defined, or why there is none.
-#[derive(Drop)]
+#[derive(Clone, Copy)]
 pub(crate) enum Above {
     Class(u32),
     Refuse(Refusal),

@@ -1,4 +1,6 @@
 // The decision on a start: an object of the cached class, and a first frame in the method selected for a name, one argument of type int, and int.
+#![tactic(auto)]
+
 ghost use Rattle.std.specs.Prelude.{◌≡◌, ◌&&◌, leb, ltb};
 ghost use Rattle.opening.specs.Openings.{Opened};
 ghost use Rattle.definition.specs.Numbers.{name_object, loader_limit};
@@ -12,7 +14,7 @@ use definition::{Arguments, Refusal, Signature};
 use resolution::{Found, Selection};
 
 // A refusal; or an object's class, the class and the place of the first frame's method, and the object's number.
-#[derive(Drop)]
+#[derive(Clone, Copy)]
 pub enum Opening {
     Deny(Refusal),
     First(u32, u32, u32, u16),

@@ -1,4 +1,6 @@
 // Ties posted between two loaders, by a step or for an override: which are new, how many, their rows, and that a refusal posts none.
+#![tactic(auto)]
+
 ghost use Rattle.std.specs.Prelude.{◌≡◌, ◌≢◌, [], ◌∷◌, ◌++◌, ◌+◌, ◌<◌, length};
 ghost use Rattle.definition.specs.Lists.{any, rows, write_rows};
 ghost use Rattle.definition.specs.Classes.{types_of};
@@ -12,7 +14,7 @@ use definition::numbers::NAME_INT;
 use instructions::Plan;
 
 // The ties that a step posts between two loaders: on each of those names in turn, and then on the last.
-#[derive(Drop)]
+#[derive(Clone, Copy)]
 pub enum Posting {
     Nothing,
     Ties(u8, u8, Arguments, u16),

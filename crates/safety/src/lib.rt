@@ -1,1 +1,3 @@
 // The safety of the machine: proofs only.
+#![tactic(auto)]
+

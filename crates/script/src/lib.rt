@@ -1,4 +1,6 @@
 // Lines of boxscript: a line of bytes read as a command, and an answer printed as a line.
+#![tactic(auto)]
+
 mod fields; // fields.rt: parts of a line, and where the first field ends
 mod numbers; // numbers.rt: decimal numbers and ints
 mod files; // files.rt: a file as pairs of hexadecimal digits
@@ -11,7 +13,7 @@ pub use printing::print_line;
 pub use reading::read_line;
 
 // The call that a line asks for. A define has its file's length; the file's bytes are in the table that was lent.
-#[derive(Drop)]
+#[derive(Clone, Copy)]
 pub enum Command {
     Record(u16, u16, u16),
     Define(u16, u32),
@@ -22,28 +24,28 @@ pub enum Command {
 }
 
 // Where the first space is.
-#[derive(Drop)]
+#[derive(Clone, Copy)]
 enum Space {
     At(usize),
     Nowhere,
 }
 
 // A number of at most 32 bits.
-#[derive(Drop)]
+#[derive(Clone, Copy)]
 enum Number {
     Value(u32),
     NoNumber,
 }
 
 // A number of at most 16 bits.
-#[derive(Drop)]
+#[derive(Clone, Copy)]
 enum Short {
     Name(u16),
     NoShort,
 }
 
 // A first field that is a number of at most 16 bits, and where the fields after it begin.
-#[derive(Drop)]
+#[derive(Clone, Copy)]
 enum Head {
     Field(u16, usize),
     NoField,

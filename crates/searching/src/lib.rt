@@ -1,5 +1,7 @@
 // How could this load: a search for an order of offered loads that is accepted throughout and ends with a wanted request cached. Orders are tried on a second store,
 // a copy of the box's, by the public loads; a load that led nowhere is undone by the counts before it. The box is only read.
+#![tactic(auto)]
+
 mod offers; // offers.rt: the offers as rows of cells and a pool of bytes
 mod asking; // asking.rt: loads that can be refused without a look at their code
 mod trying; // trying.rt: orders of so many loads, tried on the second store
@@ -11,21 +13,21 @@ use definition::Refusal;
 pub use searches::search;
 
 // An order of loads, as a number: the offers' numbers as its digits to the base 8, the first load's the lowest. Or there is none.
-#[derive(Drop)]
+#[derive(Clone, Copy)]
 enum Ordered {
     Order(u32),
     NoOrder,
 }
 
 // The shortest order: how many loads it has, and the order as a number. Or there is none.
-#[derive(Drop)]
+#[derive(Clone, Copy)]
 enum Fewest {
     Loads(u32, u32),
     NoLoads,
 }
 
 // What a search answers: an order, by how many loads it has and the order as a number; that there is none; or a refusal.
-#[derive(Drop)]
+#[derive(Clone, Copy)]
 pub enum Finding {
     Found(u32, u32),
     NotFound,

@@ -1,5 +1,7 @@
 // Word 1: whether tables are no store. Lengths, counts and the numbers of rows are tested first, then the classes' files; after that classes are read at once, and
 // superclasses, sizes, rows, values and the trace of loads are tested, each used row once. And the numbers that added rows get.
+#![tactic(auto)]
+
 mod counts; // counts.rt: lengths of the tables, and counts within their limits
 mod sources; // sources.rt: classes with their files, entries and constraints
 mod values; // values.rt: values of objects' fields and of frames
@@ -13,14 +15,14 @@ use definition::numbers::CLASS_LIMIT;
 pub use numbering::number_rows;
 
 // The number of fields of a class that has a superclass and at most 16 fields.
-#[derive(Drop)]
+#[derive(Clone, Copy)]
 pub enum Fields {
     Count(u8),
     Unfit,
 }
 
 // The verdict on tables, and the number of fields of each class of a store.
-#[derive(Drop)]
+#[derive(Clone, Copy)]
 pub struct Sizes {
     pub broken: bool,
     pub fields: [u8; CLASS_LIMIT as usize],

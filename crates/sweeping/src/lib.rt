@@ -1,4 +1,6 @@
 // Dead objects: sweep frees every object that no frame reaches. Each object in use is looked at once.
+#![tactic(auto)]
+
 mod marking; // marking.rt: marks, and the work list
 mod freeing; // freeing.rt: owners of objects without a mark
 

@@ -1,4 +1,6 @@
 // The two tasks: whose turn it is, and how many frames a task has.
+#![tactic(auto)]
+
 ghost use Rattle.std.specs.Prelude.{◌≡◌, ◌+◌, get_or, set};
 ghost use Rattle.tasks.specs.Turns.{turn_of};
 ghost use Rattle.definition.specs.Numbers.{count_frames};

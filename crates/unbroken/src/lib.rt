@@ -1,1 +1,3 @@
 // Every call keeps an unbroken store unbroken: proofs only.
+#![tactic(auto)]
+

@@ -1,5 +1,7 @@
 // Taking back the latest load that changed the store: the five counts before it are the store's again, and its row of the trace goes. What it had added lies behind the
 // counts. The groups of the ties left are made anew, since the load may have joined older ones; no other cell is written.
+#![tactic(auto)]
+
 ghost use Rattle.std.specs.Prelude.{◌≡◌};
 ghost use Rattle.definition.specs.Tables.{tables, level_at};
 ghost use Rattle.definition.specs.Calls.{done, call_take_back, perform};

@@ -11,7 +11,7 @@ use definition::Arguments;
 
 // What an instruction leaves, if it fits: the types, the receiver's meeting, its place, and the names that are demanded of the values above it. Those values are
 // still among the operands, past the last.
-#[derive(Drop)]
+#[derive(Clone, Copy)]
 pub struct Change {
     pub types: Types,
     pub place: usize,

@@ -10,7 +10,7 @@ use definition::numbers::{ARGUMENT_LIMIT, VERSION_THREE, VERSION_TWO};
 use definition::{Condition, Instruction, Kind, Opcode, Operator, Signature};
 
 // What stands at a point of the code: an instruction with its size in bytes, or nothing that can be read.
-#[derive(Drop)]
+#[derive(Clone, Copy)]
 pub enum Reading {
     At(Instruction, usize),
     Unreadable,

@@ -18,7 +18,7 @@ use definition::numbers::{NAME_OBJECT, SHORT_RANGE};
 use definition::{Arguments, Condition, Instruction, Kind, Operator, Signature};
 
 // How a type meets what is demanded: not at all, as it stands, or under the note 'low below high'.
-#[derive(Drop)]
+#[derive(Clone, Copy)]
 pub enum Meeting {
     Unmet,
     Met,
@@ -27,7 +27,7 @@ pub enum Meeting {
 
 // What an instruction does: it is rejected, or keeps the lowest operands, then pushes a type or sets a local, or it ends the method.
 // The meeting is the receiver's, which is the lowest operand that isn't kept. The names are demanded of the values above it, in their order, and met.
-#[derive(Drop)]
+#[derive(Clone, Copy)]
 pub enum Effect {
     Rejected,
     Kept(usize, Meeting, Arguments),

@@ -134,7 +134,7 @@ pub(crate) fn unmet(count: u16) -> Flowed
 }
 
 // The two parts of the types at a point.
-#[derive(Drop)]
+#[derive(Clone, Copy)]
 pub enum Part {
     Locals,
     Operands,

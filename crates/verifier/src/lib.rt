@@ -1,4 +1,6 @@
 // Decoding of instructions, and the verifier.
+#![tactic(auto)]
+
 mod decoding; // decoding.rt: opcode bytes, and the instruction at a point
 mod types; // types.rt: the verifier's types as numbers, and its state at a point
 mod lookups; // lookups.rt: the map at a point, and where an instruction goes on

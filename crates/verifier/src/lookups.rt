@@ -10,7 +10,7 @@ use definition::numbers::CODE_LIMIT;
 use definition::{Condition, Instruction};
 
 // The point that a branch goes to.
-#[derive(Drop)]
+#[derive(Clone, Copy)]
 pub enum Target {
     To(u16),
     Nowhere,

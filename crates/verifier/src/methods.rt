@@ -16,7 +16,7 @@ use crate::types::{Types, entry_types};
 use definition::Signature;
 
 // The maps left behind a point: from that number on, the first at that place; or the point lies behind one of them.
-#[derive(Drop)]
+#[derive(Clone, Copy)]
 pub enum Passed {
     Inside,
     To(u8, u32),

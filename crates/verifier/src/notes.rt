@@ -10,7 +10,7 @@ use crate::effects::Meeting;
 use definition::numbers::ROW_CELLS;
 
 // What verifying answers: whether it accepts, and how many rows the table of subtype constraints has with the notes. Past 256 there are too many.
-#[derive(Drop)]
+#[derive(Clone, Copy)]
 pub struct Verified {
     pub accepts: bool,
     pub count: u16,
@@ -18,14 +18,14 @@ pub struct Verified {
 
 // What posting a note answers: how many rows the table has with it, and the row behind it, at which the next is looked for first. The notes of flows into
 // one map mostly come in the same order again.
-#[derive(Drop)]
+#[derive(Clone, Copy)]
 pub struct Posted {
     pub count: u16,
     pub near: u16,
 }
 
 // What a flow into a map answers: whether it is met, and the same.
-#[derive(Drop)]
+#[derive(Clone, Copy)]
 pub struct Flowed {
     pub accepts: bool,
     pub count: u16,

@@ -17,21 +17,21 @@ use definition::Signature;
 use definition::numbers::{SUBTYPE_LIMIT, VERSION_TWO};
 
 // The two checks of a method: that no map is lacking, and the verifier's walk.
-#[derive(Drop)]
+#[derive(Clone, Copy)]
 pub enum Check {
     Maps,
     Types,
 }
 
 // A point of a method's code.
-#[derive(Drop)]
+#[derive(Clone, Copy)]
 pub enum Point {
     At(usize),
     Nowhere,
 }
 
 // A method, by its number in the file's order, and a point of its code.
-#[derive(Drop)]
+#[derive(Clone, Copy)]
 pub enum Found {
     In(u8, usize),
     Absent,

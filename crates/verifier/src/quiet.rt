@@ -16,7 +16,7 @@ use cells::arguments::argument_count;
 use definition::Arguments;
 
 // What a turn without notes does: it goes to that point, keeps the lowest operands, and pushes a type on them or sets a local. A loud turn is any other.
-#[derive(Drop)]
+#[derive(Clone, Copy)]
 pub enum Quiet {
     Loud,
     Keeps(usize, usize),
@@ -25,7 +25,7 @@ pub enum Quiet {
 }
 
 // Where quiet turns end: the types, how many turns are left, the point, and the maps left from that number on, the first at that place.
-#[derive(Drop)]
+#[derive(Clone, Copy)]
 pub struct Run {
     pub types: Types,
     pub left: usize,

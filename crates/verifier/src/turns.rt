@@ -17,7 +17,7 @@ use crate::types::Types;
 use definition::Instruction;
 
 // Where the walk goes: nowhere, as it is rejected; to the code's end; or to the next point.
-#[derive(Drop)]
+#[derive(Clone, Copy)]
 pub enum Step {
     Stop,
     End,
@@ -25,7 +25,7 @@ pub enum Step {
 }
 
 // What a turn leaves: where the walk goes, how many rows there are with its notes, the row at which the next flow's are looked for first, and the types.
-#[derive(Drop)]
+#[derive(Clone, Copy)]
 pub struct Turn {
     pub types: Types,
     pub step: Step,

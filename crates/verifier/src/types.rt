@@ -23,7 +23,7 @@ pub(crate) const UNSET: u32 = SHORT_RANGE + 2;
 
 // The types at a point: of the operands, from the lowest, as many as depth says, and of the locals. The long fields come first here and in what
 // holds them, so that a copy reads what was written at the same places.
-#[derive(Drop)]
+#[derive(Clone, Copy)]
 pub struct Types {
     pub operands: [u32; OPERANDS],
     pub locals: [u32; LOCALS],
@@ -31,7 +31,7 @@ pub struct Types {
 }
 
 // The last operand's type, and how many are left below it.
-#[derive(Drop)]
+#[derive(Clone, Copy)]
 pub enum Popped {
     Top(u32, usize),
     Empty,
