@@ -18,14 +18,15 @@ use Rattle.definition.specs.Superclasses.{Below, Falls, below, same}
 use Rattle.laws.specs.Chains.{chain-leads, leads-chain, requests}
 use Rattle.laws.specs.Upward.{below_true, true_below}
 
-pub all-at : {A : Type 0} (f : A → Bool) {xs : List A} {x : A} → all f xs ≡ true → Memᴰ x xs → f x ≡ true
+pub all-at : {A : Type 0} (f : A → Bool) {x : A} {xs : List A} → all f xs ≡ true → Memᴰ x xs → f x ≡ true
 unfolding all
-all-at {A} f {xs = y ∷ ys} {x} h (Memᴰ.head e) = go (f y) refl h
+all-at {A = A} f {x = x} {xs = []} h never = elim never [ ]
+all-at {A} f {x} {xs = y ∷ ys} h (Memᴰ.head e) = go (f y) refl h
   where
     go : (t : Bool) → f y ≡ t → (elim t as (λ _. Bool) [ true ↦ all f ys | false ↦ false ]) ≡ true → f x ≡ true
     go true q _ = ap f e ∙ q
     go false q r = absurd (false≢true r)
-all-at {A} f {xs = y ∷ ys} {x} h (Memᴰ.tail m) = all-at f (go (f y) h) m
+all-at {A} f {x} {xs = y ∷ ys} h (Memᴰ.tail m) = all-at f (go (f y) h) m
   where
     go : (t : Bool) → (elim t as (λ _. Bool) [ true ↦ all f ys | false ↦ false ]) ≡ true → all f ys ≡ true
     go true r = r

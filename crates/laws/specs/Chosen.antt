@@ -31,11 +31,13 @@ without (y ∷ ys) (Memᴰ.tail m) = y ∷ without ys m
 
 without-length : {A : Type 0} {x : A} (ys : List A) (m : Memᴰ x ys) → suc (length (without ys m)) ≡ length ys
 unfolding without
+without-length {A = A} [] never = elim never [ ]
 without-length (y ∷ ys) (Memᴰ.head e) = refl
 without-length (y ∷ ys) (Memᴰ.tail m) = ap suc (without-length ys m)
 
 without-keeps : {A : Type 0} {x z : A} (ys : List A) (m : Memᴰ x ys) → Memᴰ z ys → (z ≡ x) ⊎ Memᴰ z (without ys m)
 unfolding without
+without-keeps {A = A} {z = z} [] never _ = elim never [ ]
 without-keeps (y ∷ ys) (Memᴰ.head e) (Memᴰ.head q) = inl (q ∙ sym e)
 without-keeps (y ∷ ys) (Memᴰ.head e) (Memᴰ.tail n) = inr n
 without-keeps (y ∷ ys) (Memᴰ.tail m) (Memᴰ.head q) = inr (Memᴰ.head q)
