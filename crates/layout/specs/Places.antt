@@ -167,7 +167,7 @@ module _ {A : Type 0} (f : A → Bool) (g : ℕ → A) where
 
   pub rows_on : (n i : ℕ) → i < n → f (g i) ≡ true → all f (rows g (n - i) i) ≡ all f (rows g (n - (i + 1)) (i + 1))
   unfolding all
-  rows_on n i h e = ap (all f) (rows_step g n i h) ∙ rw e
+  rows_on n i h e = ap (all f) (rows_step g n i h) ∙ rw (e, all)
 
   pub rows_end : (n i : ℕ) → n ≤ i → all f (rows g (n - i) i) ≡ true
   unfolding all
@@ -179,7 +179,7 @@ module _ {A : Type 0} (f : A → Bool) (g : ℕ → A) where
 
   pub any-on : (n i : ℕ) → i < n → f (g i) ≡ false → any f (rows g (n - i) i) ≡ any f (rows g (n - (i + 1)) (i + 1))
   unfolding any
-  any-on n i h e = ap (any f) (rows_step g n i h) ∙ rw e
+  any-on n i h e = ap (any f) (rows_step g n i h) ∙ rw (e, any)
 
   pub any-end : (n i : ℕ) → n ≤ i → any f (rows g (n - i) i) ≡ false
   unfolding any
@@ -191,7 +191,7 @@ module _ {A : Type 0} (f : A → Bool) (g : ℕ → A) where
 
   pub stack-on : (i : ℕ) → 0 < i → f (g (i - 1)) ≡ true → all f (stack g i) ≡ all f (stack g (i - 1))
   unfolding all
-  stack-on i h e = ap (all f) (stack_top g i h) ∙ rw e
+  stack-on i h e = ap (all f) (stack_top g i h) ∙ rw (e, all)
 
   pub stack-end : (i : ℕ) → i ≤ 0 → all f (stack g i) ≡ true
   unfolding all stack
