@@ -1,0 +1,27 @@
+use Prim.Native.Nat.{ℕ, ◌-◌, ◌≤◌}
+use mathlib.Core.Logic.{⊎_elim}
+use mathlib.Core.Path.{◌≡◌, sym, ◌∙◌}
+use native.Mathlib.Omega.{arith}
+use lib.ListN.{length, get_or, set, length-set, length-replicate}
+use borrow.Author.Tests.{eqb-true, not-false}
+use Rattle.constraints.specs.Agreement.{super_in}
+use Rattle.constraints.specs.Choosing.{held, Holds}
+use Rattle.constraints.specs.Search.{Stamped}
+use Rattle.constraints.proofs.Choices.{starts-low, Met, met-none, met-more, Swept, swept_none, swept-met, swept-one, swept_all}
+use Rattle.constraints.proofs.Filling.{joined-none}
+use Rattle.constraints.proofs.Marking.{stamped-none, stamped-more}
+use Rattle.constraints.proofs.Supers.{super-falls}
+use borrow.Author.Rules.{rules}
+use Rattle.constraints.proofs.choosing.search_all.Given as goal
+
+abbrev pub invariant-loop-p : goal.invariant-loop-p
+invariant-loop-p l =
+    (l.p ≤ l.cached)
+    × Holds l.best l.kept
+    × Stamped 256 l.p l.aboves
+    × Met l.classes l.p l.met
+    × (length l.met ≡ 256)
+    × Swept l.froms l.tos l.labels l.count l.classes l.cached l.only (super_in l.supers) l.p (held l.initial.best l.size) (held l.best l.kept)
+
+abbrev pub decreases-loop-p : goal.decreases-loop-p
+decreases-loop-p l = l.cached - l.p

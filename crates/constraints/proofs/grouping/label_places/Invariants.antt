@@ -1,0 +1,15 @@
+use Prim.Native.Nat.{ℕ, ◌-◌, ◌<◌, ◌≤◌}
+use mathlib.Core.Path.{◌≡◌, refl, ◌∙◌}
+use native.Mathlib.Omega.{arith}
+use lib.ListN.{length, get_or, length-set}
+use lib.Seq.{get_or-set_other}
+use Rattle.constraints.proofs.Filling.{fill_more}
+use Rattle.constraints.proofs.Labelling.{label_kept}
+use borrow.Author.Rules.{rules}
+use Rattle.constraints.proofs.grouping.label_places.Given as goal
+
+abbrev pub invariant-loop-p : goal.invariant-loop-p
+invariant-loop-p l = (l.p ≤ l.n) × ((q : ℕ) → q < l.p → get_or l.labels q 0 ≡ get_or l.initial.labels (get_or l.nodes q 0) 0) × ((q : ℕ) → l.p ≤ q → get_or l.labels q 0 ≡ get_or l.initial.labels q 0) × (length l.labels ≡ length l.initial.labels)
+
+abbrev pub decreases-loop-p : goal.decreases-loop-p
+decreases-loop-p l = l.n - l.p

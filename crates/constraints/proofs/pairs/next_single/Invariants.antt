@@ -1,0 +1,12 @@
+use Prim.Native.Nat.{ℕ, ◌-◌, ◌<◌, ◌≤◌}
+use native.Mathlib.Omega.{arith}
+use borrow.Author.Count.{below_more}
+use Rattle.constraints.specs.Search.{Marked}
+use borrow.Author.Rules.{rules}
+use Rattle.constraints.proofs.pairs.next_single.Given as goal
+
+abbrev pub invariant-loop-b : goal.invariant-loop-b
+invariant-loop-b l = (l.from ≤ l.b) × ((p : ℕ) → p < l.b → l.from ≤ p → Marked l.stamp l.marks p → ⊥)
+
+abbrev pub decreases-loop-b : goal.decreases-loop-b
+decreases-loop-b l = l.end - l.b
