@@ -12,13 +12,13 @@ returns-then-y-eq0 c = rw (c.refuse.ensures, c.in-Divide.is, c.if-y-eq0.true)
 
 pub returns-in-Add : goal.returns-in-Add
 unfolding computed compute
-returns-in-Add c = rw (c.int_above.ensures, c.in-Add.is, c.wrapping_add_u32.ensures)
+returns-in-Add c = rw (c.int_above.ensures, c.in-Add.is, c.wrapping_add_u32.ensures.value)
 
 pub returns-in-Subtract : goal.returns-in-Subtract
 unfolding computed compute
 returns-in-Subtract c =
     let args = c.args in
-    rw (c.int_above-in-Subtract.ensures, c.in-Subtract.is, subtracted c.wrapping_sub_u32.result args.x args.y (omega arith) (omega arith) (omega arith) c.wrapping_sub_u32.ensures)
+    rw (c.int_above-in-Subtract.ensures, c.in-Subtract.is, subtracted c.wrapping_sub_u32.result args.x args.y (omega arith) (omega arith) (omega arith) c.wrapping_sub_u32.ensures.value)
 
 pub returns-in-Multiply : goal.returns-in-Multiply
 unfolding computed compute
