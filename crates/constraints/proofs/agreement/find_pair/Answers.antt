@@ -47,10 +47,10 @@ pairs-preserved c =
       loop.invariant.0,
       tested-next _ (super-falls c.args.supers.now) _ _ _ _ pre.2 (omega arith) pre.3 _ c.request_at-a.ensures pairs.invariant.1 look.ensures
           (λ p h. rw (add-one _) at (loop.invariant.1 p (omega (arith, c.loop-b-test.false)))) c.next_turn-turn.ensures,
-      look.auto.1.1.1.1.1.1.1.1.1.0 ∙ pairs.invariant.2,
-      look.auto.1.1.1.1.1.1.1.1.1.1.0 ∙ pairs.invariant.3,
-      look.auto.1.1.1.1.1.1.1.1.1.1.1.0 ∙ pairs.invariant.4,
-      look.auto.1.1.1.1.1.1.1.1.1.1.1.1.0 ∙ pairs.invariant.5,
+      look.auto.outs ∙ pairs.invariant.2,
+      look.auto.ins ∙ pairs.invariant.3,
+      look.auto.queue ∙ pairs.invariant.4,
+      look.auto.aboves ∙ pairs.invariant.5,
     )
 
 pub shape_of-outs-after-pairs : goal.shape_of-outs-after-pairs

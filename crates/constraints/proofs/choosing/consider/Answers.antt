@@ -22,9 +22,8 @@ returns-then-size-k c =
 
 pub returns-then-not-goes_before : goal.returns-then-not-goes_before
 returns-then-not-goes_before c =
-    let at13 = at7.before.before.before.before.before.before in
-    let args = at13.args in
-    let pre = at13.requires in
+    let args = c.args in
+    let pre = c.requires in
     let k = c.at16-dist.result - 1 in
     let dist : get_or args.dists.now args.node 0 ≡ suc k = omega (arith, c.at16-dist.ensures, c.if-dist-eq0.false) in
     (pre.0, stays_after _ _ _ _ _ _ k _ dist (omega (arith, dist, pre.1)) c.if-size-k-2.true (rw c.wide16.ensures.0 at (sym c.goes_before.ensures ∙ c.if-not-goes_before.true)))
@@ -43,6 +42,6 @@ returns c =
     let low : k ≤ 1280 = omega (arith, dist, pre.1) in (
       record { long = c.write_trail.auto.best ∙ pre.0.long; fits = inl low },
       comes-in _ _ _ _ args.best.now _ k _ dist low _ pre.0.fits c.if-size-k.false
-          (λ e. ⊎_elim (λ w. rw w.1.ensures.0 at (sym w.3.ensures ∙ not-false _ w.4.left)) (λ w. absurd (w.left e)) c.if-size-k-2.branch)
+          (λ e. elim c.if-size-k-2.branch [ then-size-k w ↦ ? | else-size-k w ↦ ? ])
           (rw c.wide16-2.ensures.0 at c.write_trail.ensures),
     )

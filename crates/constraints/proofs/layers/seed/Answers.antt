@@ -27,4 +27,4 @@ pub shape_of-queue : goal.shape_of-queue
 shape_of-queue c = (seeds-room _ _ _ _ _ _ _ _ _ c.loop-q.invariant.1).1 ∙ sym c.requires.2
 
 pub returns : goal.returns
-returns c = seeds-end _ _ _ _ _ _ _ _ _ _ c.loop-q.invariant.0 c.loop-q-test.false c.loop-q.invariant.1 ways l
+returns c ways l = seeds-end _ _ _ _ _ _ _ _ _ _ c.loop-q.invariant.0 c.loop-q-test.false c.loop-q.invariant.1 ways l

@@ -18,4 +18,4 @@ returns-then-not-comes_first c =
 
 pub returns : goal.returns
 returns c =
-    (inl refl, rw c.put16.ensures (alone-sooner _ _ _ _ _ _ _ _ _ c.breaks_alone.ensures c.if-not-breaks_alone.false _ c.at16-label.ensures _ _ c.requires.0 (omega (arith, c.requires.1)) (λ e. ⊎_elim (λ w. sym (w.3.ensures ∙ ap (λ (z : ℕ). row_before _ z) w.2.ensures) ∙ not-false _ w.4.left) (λ w. absurd (w.left e)) c.if-size-eq1.branch)))
+    (inl refl, rw c.put16.ensures (alone-sooner _ _ _ _ _ _ _ _ _ c.breaks_alone.ensures c.if-not-breaks_alone.false _ c.at16-label.ensures _ _ c.requires.0 (omega (arith, c.requires.1)) (λ e. elim c.if-size-eq1.branch [ then-size-eq1 w ↦ ? | else-size-eq1 w ↦ ? ])))
