@@ -8,6 +8,7 @@ use borrow.Author.Tests.{not-true, not-false}
 use Rattle.constraints.proofs.Choices.{considered-none, stays-longer, stays_after, comes-in}
 use borrow.Author.Rules.{rules}
 use Rattle.constraints.proofs.choosing.consider.Goals as goal
+use Rattle.constraints.proofs.choosing.consider.Goals.{then-size-k-2+else-not-goes_before, else-size-k-2}
 
 pub returns-then-dist-eq0 : goal.returns-then-dist-eq0
 returns-then-dist-eq0 c = (c.requires.0, sym (considered-none _ _ _ _ _ _ (sym c.at16-dist.ensures ∙ c.if-dist-eq0.true)))
@@ -42,6 +43,6 @@ returns c =
     let low : k ≤ 1280 = omega (arith, dist, pre.1) in (
       record { long = c.write_trail.auto.best ∙ pre.0.long; fits = inl low },
       comes-in _ _ _ _ args.best.now _ k _ dist low _ pre.0.fits c.if-size-k.false
-          (λ e. elim c.if-size-k-2.branch [ then-size-k w ↦ ? | else-size-k w ↦ ? ])
+          (λ e. elim c.if-size-k-2.branch [ then-size-k-2+else-not-goes_before w ↦ rw w.wide16.ensures.0 at (sym w.goes_before.ensures ∙ w.if-not-goes_before.false) | else-size-k-2 w ↦ absurd (w.if-size-k-2.false e) ])
           (rw c.wide16-2.ensures.0 at c.write_trail.ensures),
     )

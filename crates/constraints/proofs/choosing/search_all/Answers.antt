@@ -14,6 +14,7 @@ use Rattle.constraints.proofs.Marking.{stamped-none, stamped-more}
 use Rattle.constraints.proofs.Supers.{super-falls}
 use borrow.Author.Rules.{rules}
 use Rattle.constraints.proofs.choosing.search_all.Goals as goal
+use Rattle.constraints.proofs.choosing.search_all.Goals.{then-not-was_met, else-not-was_met}
 
 pub join-requires : goal.join-requires
 join-requires c = (omega arith, c.requires.1.few, starts-low c.requires.1, joined-none _)

@@ -8,6 +8,7 @@ use borrow.Author.Tests.{not-true, not-false}
 use Rattle.laws.specs.Earlier.{row_before}
 use Rattle.constraints.proofs.Alones.{alone-not, alone-later, alone-sooner}
 use Rattle.constraints.proofs.singles.consider_alone.Goals as goal
+use Rattle.constraints.proofs.singles.consider_alone.Goals.{then-size-eq1+else-not-comes_first, else-size-eq1}
 
 pub returns-then-not-breaks_alone : goal.returns-then-not-breaks_alone
 returns-then-not-breaks_alone c = (c.requires.0, alone-not _ _ _ _ _ _ _ _ _ _ c.breaks_alone.ensures c.if-not-breaks_alone.true)
@@ -18,4 +19,4 @@ returns-then-not-comes_first c =
 
 pub returns : goal.returns
 returns c =
-    (inl refl, rw c.put16.ensures (alone-sooner _ _ _ _ _ _ _ _ _ c.breaks_alone.ensures c.if-not-breaks_alone.false _ c.at16-label.ensures _ _ c.requires.0 (omega (arith, c.requires.1)) (λ e. elim c.if-size-eq1.branch [ then-size-eq1 w ↦ ? | else-size-eq1 w ↦ ? ])))
+    (inl refl, rw c.put16.ensures (alone-sooner _ _ _ _ _ _ _ _ _ c.breaks_alone.ensures c.if-not-breaks_alone.false _ c.at16-label.ensures _ _ c.requires.0 (omega (arith, c.requires.1)) (λ e. elim c.if-size-eq1.branch [ then-size-eq1+else-not-comes_first w ↦ sym (w.comes_first.ensures ∙ ap (λ (z : ℕ). row_before _ z) w.at16.ensures) ∙ w.if-not-comes_first.false | else-size-eq1 w ↦ absurd (w.if-size-eq1.false e) ])))
