@@ -1,12 +1,10 @@
 -- The chain was not found, is longer, is as long and doesn't go before, or is written.
 use Prim.Native.Nat.{suc, ◌-◌, ◌≤◌}
-use mathlib.Core.Logic.{inl, ⊎_elim}
+use mathlib.Core.Logic.{inl}
 use mathlib.Core.Path.{◌≡◌, sym, ◌∙◌}
 use native.Mathlib.Omega.{arith}
 use lib.ListN.{get_or}
-use borrow.Author.Tests.{not-true, not-false}
 use Rattle.constraints.proofs.Choices.{considered-none, stays-longer, stays_after, comes-in}
-use borrow.Author.Rules.{rules}
 use Rattle.constraints.proofs.choosing.consider.Goals as goal
 use Rattle.constraints.proofs.choosing.consider.Goals.{then-size-k-2+else-not-goes_before, else-size-k-2}
 

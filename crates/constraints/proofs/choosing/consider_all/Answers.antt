@@ -1,11 +1,7 @@
 -- What is left to be considered makes what all of it does.
-use Prim.Native.Nat.{◌-◌, ◌≤◌}
-use mathlib.Core.Logic.{⊎_elim}
-use mathlib.Core.Path.{◌≡◌, sym, ◌∙◌}
+use mathlib.Core.Path.{sym, ◌∙◌}
 use native.Mathlib.Omega.{arith}
-use Rattle.constraints.specs.Choosing.{held, Holds, considered_all}
 use Rattle.constraints.proofs.Choices.{left-start, left_here, left-past, left-none}
-use borrow.Author.Rules.{rules}
 use Rattle.constraints.proofs.choosing.consider_all.Goals as goal
 use Rattle.constraints.proofs.choosing.consider_all.Goals.{then-at16-c, else-at16-c}
 
@@ -20,10 +16,10 @@ loop-q-preserved c =
     let loop = c.loop-q in
     let test = c.loop-q-test in
     elim c.if-at16-c.branch [
-      then-at16-c w ↦ rw (w.best-is, w.kept-is)
-        (omega arith, w.consider-kept.ensures.0, rw w.consider-kept.ensures.1 (sym (left_here _ _ _ _ _ _ _ _ _ test.true (sym c.at16.ensures ∙ w.if-at16-c.true)) ∙ loop.invariant.2))
+      | then-at16-c w ↦ rw (w.best-is, w.kept-is)
+          (omega arith, w.consider-kept.ensures.0, rw w.consider-kept.ensures.1 (sym (left_here _ _ _ _ _ _ _ _ _ test.true (sym c.at16.ensures ∙ w.if-at16-c.true)) ∙ loop.invariant.2))
       | else-at16-c w ↦ rw (w.best-is, w.kept-is)
-        (omega arith, loop.invariant.1, sym (left-past _ _ _ _ _ _ _ _ _ test.true (λ e. w.if-at16-c.false (c.at16.ensures ∙ e))) ∙ loop.invariant.2)
+          (omega arith, loop.invariant.1, sym (left-past _ _ _ _ _ _ _ _ _ test.true (λ e. w.if-at16-c.false (c.at16.ensures ∙ e))) ∙ loop.invariant.2)
     ]
 
 pub shape_of-best : goal.shape_of-best

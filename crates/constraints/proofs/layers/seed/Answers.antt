@@ -1,9 +1,7 @@
 -- The requests before place q were looked at.
-use Prim.Native.Nat.{◌-◌, ◌≤◌}
 use mathlib.Core.Path.{sym, ◌∙◌}
 use native.Mathlib.Omega.{arith}
-use borrow.Author.Rules.{rules}
-use Rattle.constraints.proofs.Spreading.{Seeds, seeded-none, seeds-next, seeds-room, seeds-end}
+use Rattle.constraints.proofs.Spreading.{seeded-none, seeds-next, seeds-room, seeds-end}
 use Rattle.constraints.proofs.layers.seed.Goals as goal
 
 pub loop-q-init : goal.loop-q-init

@@ -1,6 +1,4 @@
 -- A request whose class isn't bad changes nothing; another is found and queued.
-use borrow.Author.Rules.{rules}
-use borrow.Author.Tests.{not-false, not-true}
 use Rattle.constraints.specs.Walks.{found}
 use Rattle.constraints.proofs.Spreading.{seed-not, seed-put}
 use Rattle.constraints.proofs.layers.seed_one.Goals as goal

@@ -5,7 +5,6 @@ use mathlib.Core.Logic.{⊎_elim}
 use native.Mathlib.Numerals.{add-one}
 use Rattle.constraints.proofs.Marking.{stamped-more}
 use Rattle.constraints.proofs.Looks.{later-ties, later-none, later-linked}
-use borrow.Author.Rules.{rules}
 use Rattle.constraints.proofs.looking.look.Goals as goal
 
 pub look_first-requires : goal.look_first-requires

@@ -2,9 +2,7 @@
 use mathlib.Core.Path.{sym, ◌∙◌}
 use mathlib.Core.Logic.{⊎_elim}
 use native.Mathlib.Omega.{arith}
-use borrow.Author.Tests.{not-true}
 use Rattle.constraints.proofs.Looks.{first-unlinked, first-linked, no_start}
-use borrow.Author.Rules.{rules}
 use Rattle.constraints.proofs.looking.look_first.Goals as goal
 
 pub returns-then-noted-eq0 : goal.returns-then-noted-eq0

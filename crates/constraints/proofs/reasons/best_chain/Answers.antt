@@ -9,7 +9,6 @@ use Rattle.constraints.specs.Agreement.{at_most}
 use Rattle.constraints.specs.Walks.{InRange, Sole}
 use Rattle.constraints.proofs.Linked.{in-range, sole}
 use Rattle.constraints.proofs.Finding.{at-most-low, held-reason}
-use borrow.Author.Rules.{rules}
 use Rattle.constraints.proofs.reasons.best_chain.Goals as goal
 use Rattle.constraints.proofs.reasons.best_chain.Goals.{After-label_links}
 

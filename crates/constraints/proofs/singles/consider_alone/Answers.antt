@@ -1,10 +1,8 @@
 -- The link breaks nothing by itself, its row doesn't go before the one that is kept, or it is kept.
-use mathlib.Core.Logic.{inl, ⊎_elim}
+use mathlib.Core.Logic.{inl}
 use mathlib.Core.Path.{refl, sym, ap, ◌∙◌}
 use Prim.Native.Nat.{ℕ}
 use native.Mathlib.Omega.{arith}
-use borrow.Author.Rules.{rules}
-use borrow.Author.Tests.{not-true, not-false}
 use Rattle.laws.specs.Earlier.{row_before}
 use Rattle.constraints.proofs.Alones.{alone-not, alone-later, alone-sooner}
 use Rattle.constraints.proofs.singles.consider_alone.Goals as goal
