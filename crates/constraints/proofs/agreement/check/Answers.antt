@@ -26,7 +26,7 @@ group_places-requires c =
     let nodes = c.number_nodes in
     let ones = c.at_most-cached.result + c.at_most-noted.result + c.at_most-noted.result in
     let tied = c.at_most-tied.result in
-    (omega arith, search rules, search rules, search rules, search rules, λ p h. (nodes.ensures p h).low, (rooted-by _ nodes.new.1.1.0 (ones + tied + tied) ones (omega arith) nodes.ensures).top)
+    (omega arith, search rules, search rules, search rules, search rules, λ p h. (nodes.ensures p h).low, (rooted-by _ nodes.new.nodes (ones + tied + tied) ones (omega arith) nodes.ensures).top)
 
 pub find_break-requires : goal.find_break-requires
 find_break-requires c =
@@ -51,9 +51,9 @@ returns c =
     noted.ensures.0 c.wide16.ensures.0
     (names (super_in args.supers.now) args.cache.now cached.result _ _ _ _ noted.result
     (agree_same args.cache.now cached.result args.ties.now tied.result args.subtypes.now noted.result args.beside.now
-    numbers.new.1.1.1.1.1.1.0 nodes.new.1.1.0 classes.new.1.1.1.0 groups.new.1.1.1.1.1.0 (omega (arith, cached.ensures.1, tied.ensures.1, noted.ensures.1)) numbers.ensures nodes.ensures
+    numbers.new.numbers nodes.new.nodes classes.new.classes groups.new.groups (omega (arith, cached.ensures.1, tied.ensures.1, noted.ensures.1)) numbers.ensures nodes.ensures
     classes.ensures groups.ensures (super_in args.supers.now))
     (breaks-same args.cache.now cached.result args.ties.now tied.result args.subtypes.now noted.result args.beside.now
-    numbers.new.1.1.1.1.1.1.0 nodes.new.1.1.0 classes.new.1.1.1.0 groups.new.1.1.1.1.1.0 (omega (arith, cached.ensures.1, tied.ensures.1, noted.ensures.1)) numbers.ensures nodes.ensures
+    numbers.new.numbers nodes.new.nodes classes.new.classes groups.new.groups (omega (arith, cached.ensures.1, tied.ensures.1, noted.ensures.1)) numbers.ensures nodes.ensures
     classes.ensures groups.ensures (super_in args.supers.now))
     _ c.find_break.ensures))

@@ -5,7 +5,6 @@ use native.Mathlib.Omega.{arith}
 use Rattle.constraints.specs.Search.{start_of}
 use Rattle.constraints.proofs.Filling.{joined-first}
 use Rattle.constraints.proofs.Looks.{tables-none, tables-zeros}
-use borrow.Author.Rules.{rules}
 use Rattle.constraints.proofs.agreement.find_break.Goals as goal
 
 pub find_pair-requires : goal.find_pair-requires

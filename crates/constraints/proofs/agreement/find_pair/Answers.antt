@@ -1,15 +1,9 @@
 -- The turns before this one are over, and what was looked at in this turn agrees.
-use Prim.Native.Nat.{ℕ, suc, ◌-◌, ◌<◌, ◌≤◌}
-use mathlib.Core.Path.{◌≡◌, refl, sym, ◌∙◌}
+use mathlib.Core.Path.{refl, sym, ◌∙◌}
 use native.Mathlib.Numerals.{add-one}
 use native.Mathlib.Omega.{arith}
-use lib.ListN.{length}
-use Rattle.constraints.specs.Agreement.{super_in}
-use Rattle.constraints.specs.Pairs.{NoPair, ToMeet, PairFine}
-use Rattle.constraints.specs.Looking.{lead_of}
 use Rattle.constraints.proofs.Supers.{super-falls}
-use Rattle.constraints.proofs.Pairing.{Tested, tested-start, tested-next, tested-all, apart-any, judged-fine, right-on, turn-fits}
-use borrow.Author.Rules.{rules}
+use Rattle.constraints.proofs.Pairing.{tested-start, tested-next, tested-all, apart-any, judged-fine, right-on, turn-fits}
 use Rattle.constraints.proofs.agreement.find_pair.Goals as goal
 
 pub pairs-init : goal.pairs-init
@@ -47,10 +41,10 @@ pairs-preserved c =
       loop.invariant.0,
       tested-next _ (super-falls c.args.supers.now) _ _ _ _ pre.2 (omega arith) pre.3 _ c.request_at-a.ensures pairs.invariant.1 look.ensures
           (λ p h. rw (add-one _) at (loop.invariant.1 p (omega (arith, c.loop-b-test.false)))) c.next_turn-turn.ensures,
-      look.auto.1.1.1.1.1.1.1.1.1.0 ∙ pairs.invariant.2,
-      look.auto.1.1.1.1.1.1.1.1.1.1.0 ∙ pairs.invariant.3,
-      look.auto.1.1.1.1.1.1.1.1.1.1.1.0 ∙ pairs.invariant.4,
-      look.auto.1.1.1.1.1.1.1.1.1.1.1.1.0 ∙ pairs.invariant.5,
+      look.auto.outs ∙ pairs.invariant.2,
+      look.auto.ins ∙ pairs.invariant.3,
+      look.auto.queue ∙ pairs.invariant.4,
+      look.auto.aboves ∙ pairs.invariant.5,
     )
 
 pub shape_of-outs-after-pairs : goal.shape_of-outs-after-pairs

@@ -1,14 +1,10 @@
 use Prim.Native.Nat.{ℕ, suc, ◌-◌, ◌<◌, ◌≤◌}
-use mathlib.Core.Path.{◌≡◌, refl, sym, ◌∙◌}
-use native.Mathlib.Numerals.{add-one}
-use native.Mathlib.Omega.{arith}
+use mathlib.Core.Path.{◌≡◌}
 use lib.ListN.{length}
 use Rattle.constraints.specs.Agreement.{super_in}
 use Rattle.constraints.specs.Pairs.{NoPair, ToMeet, PairFine}
 use Rattle.constraints.specs.Looking.{lead_of}
-use Rattle.constraints.proofs.Supers.{super-falls}
-use Rattle.constraints.proofs.Pairing.{Tested, tested-start, tested-next, tested-all, apart-any, judged-fine, right-on, turn-fits}
-use borrow.Author.Rules.{rules}
+use Rattle.constraints.proofs.Pairing.{Tested}
 use Rattle.constraints.proofs.agreement.find_pair.Given as goal
 
 abbrev pub invariant-loop-b : goal.invariant-loop-b

@@ -3,7 +3,6 @@ use mathlib.Core.Path.{refl}
 use native.Mathlib.Omega.{arith}
 use Rattle.definition.specs.Tables.{entry_at}
 use Rattle.constraints.specs.Agreement.{told_of}
-use borrow.Author.Rules.{rules}
 use Rattle.constraints.proofs.agreement.tell.Goals as goal
 
 pub overflow_mul-a : goal.overflow_mul-a

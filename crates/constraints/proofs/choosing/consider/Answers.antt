@@ -1,13 +1,12 @@
 -- The chain was not found, is longer, is as long and doesn't go before, or is written.
 use Prim.Native.Nat.{suc, ◌-◌, ◌≤◌}
-use mathlib.Core.Logic.{inl, ⊎_elim}
+use mathlib.Core.Logic.{inl}
 use mathlib.Core.Path.{◌≡◌, sym, ◌∙◌}
 use native.Mathlib.Omega.{arith}
 use lib.ListN.{get_or}
-use borrow.Author.Tests.{not-true, not-false}
 use Rattle.constraints.proofs.Choices.{considered-none, stays-longer, stays_after, comes-in}
-use borrow.Author.Rules.{rules}
 use Rattle.constraints.proofs.choosing.consider.Goals as goal
+use Rattle.constraints.proofs.choosing.consider.Goals.{then-size-k-2+else-not-goes_before, else-size-k-2}
 
 pub returns-then-dist-eq0 : goal.returns-then-dist-eq0
 returns-then-dist-eq0 c = (c.requires.0, sym (considered-none _ _ _ _ _ _ (sym c.at16-dist.ensures ∙ c.if-dist-eq0.true)))
@@ -22,9 +21,8 @@ returns-then-size-k c =
 
 pub returns-then-not-goes_before : goal.returns-then-not-goes_before
 returns-then-not-goes_before c =
-    let at13 = at7.before.before.before.before.before.before in
-    let args = at13.args in
-    let pre = at13.requires in
+    let args = c.args in
+    let pre = c.requires in
     let k = c.at16-dist.result - 1 in
     let dist : get_or args.dists.now args.node 0 ≡ suc k = omega (arith, c.at16-dist.ensures, c.if-dist-eq0.false) in
     (pre.0, stays_after _ _ _ _ _ _ k _ dist (omega (arith, dist, pre.1)) c.if-size-k-2.true (rw c.wide16.ensures.0 at (sym c.goes_before.ensures ∙ c.if-not-goes_before.true)))
@@ -43,6 +41,6 @@ returns c =
     let low : k ≤ 1280 = omega (arith, dist, pre.1) in (
       record { long = c.write_trail.auto.best ∙ pre.0.long; fits = inl low },
       comes-in _ _ _ _ args.best.now _ k _ dist low _ pre.0.fits c.if-size-k.false
-          (λ e. ⊎_elim (λ w. rw w.1.ensures.0 at (sym w.3.ensures ∙ not-false _ w.4.left)) (λ w. absurd (w.left e)) c.if-size-k-2.branch)
+          (λ e. elim c.if-size-k-2.branch [ then-size-k-2+else-not-goes_before w ↦ rw w.wide16.ensures.0 at (sym w.goes_before.ensures ∙ w.if-not-goes_before.false) | else-size-k-2 w ↦ absurd (w.if-size-k-2.false e) ])
           (rw c.wide16-2.ensures.0 at c.write_trail.ensures),
     )

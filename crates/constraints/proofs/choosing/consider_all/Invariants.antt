@@ -1,10 +1,6 @@
 use Prim.Native.Nat.{◌-◌, ◌≤◌}
-use mathlib.Core.Logic.{⊎_elim}
-use mathlib.Core.Path.{◌≡◌, sym, ◌∙◌}
-use native.Mathlib.Omega.{arith}
+use mathlib.Core.Path.{◌≡◌}
 use Rattle.constraints.specs.Choosing.{held, Holds, considered_all}
-use Rattle.constraints.proofs.Choices.{left-start, left_here, left-past, left-none}
-use borrow.Author.Rules.{rules}
 use Rattle.constraints.proofs.choosing.consider_all.Given as goal
 
 abbrev pub invariant-loop-q : goal.invariant-loop-q

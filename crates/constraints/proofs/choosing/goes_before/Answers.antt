@@ -1,14 +1,7 @@
 -- What is left to compare decides as the whole does.
-use Prim.Native.Nat.{◌-◌, ◌≤◌}
-use mathlib.Core.Path.{◌≡◌, sym, ◌∙◌}
+use mathlib.Core.Path.{sym, ◌∙◌}
 use native.Mathlib.Omega.{arith}
-use lib.ListN.{get_or}
-use Rattle.definition.specs.Lists.{rows}
-use Rattle.definition.specs.Reasons.{precedes}
-use Rattle.laws.specs.Earlier.{row_before}
-use Rattle.constraints.specs.Walks.{trail}
-use Rattle.constraints.proofs.Choices.{goes_on, goes-start, goes_none, goes_before, goes_after, goes-on}
-use borrow.Author.Rules.{rules}
+use Rattle.constraints.proofs.Choices.{goes-start, goes_none, goes_before, goes_after, goes-on}
 use Rattle.constraints.proofs.choosing.goes_before.Goals as goal
 
 pub loop-i-init : goal.loop-i-init

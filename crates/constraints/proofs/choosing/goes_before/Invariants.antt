@@ -1,13 +1,11 @@
 use Prim.Native.Nat.{◌-◌, ◌≤◌}
-use mathlib.Core.Path.{◌≡◌, sym, ◌∙◌}
-use native.Mathlib.Omega.{arith}
+use mathlib.Core.Path.{◌≡◌}
 use lib.ListN.{get_or}
 use Rattle.definition.specs.Lists.{rows}
 use Rattle.definition.specs.Reasons.{precedes}
 use Rattle.laws.specs.Earlier.{row_before}
 use Rattle.constraints.specs.Walks.{trail}
-use Rattle.constraints.proofs.Choices.{goes_on, goes-start, goes_none, goes_before, goes_after, goes-on}
-use borrow.Author.Rules.{rules}
+use Rattle.constraints.proofs.Choices.{goes_on}
 use Rattle.constraints.proofs.choosing.goes_before.Given as goal
 
 abbrev pub invariant-loop-i : goal.invariant-loop-i

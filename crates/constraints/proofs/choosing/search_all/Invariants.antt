@@ -1,17 +1,10 @@
-use Prim.Native.Nat.{ℕ, ◌-◌, ◌≤◌}
-use mathlib.Core.Logic.{⊎_elim}
-use mathlib.Core.Path.{◌≡◌, sym, ◌∙◌}
-use native.Mathlib.Omega.{arith}
-use lib.ListN.{length, get_or, set, length-set, length-replicate}
-use borrow.Author.Tests.{eqb-true, not-false}
+use Prim.Native.Nat.{◌-◌, ◌≤◌}
+use mathlib.Core.Path.{◌≡◌}
+use lib.ListN.{length}
 use Rattle.constraints.specs.Agreement.{super_in}
 use Rattle.constraints.specs.Choosing.{held, Holds}
 use Rattle.constraints.specs.Search.{Stamped}
-use Rattle.constraints.proofs.Choices.{starts-low, Met, met-none, met-more, Swept, swept_none, swept-met, swept-one, swept_all}
-use Rattle.constraints.proofs.Filling.{joined-none}
-use Rattle.constraints.proofs.Marking.{stamped-none, stamped-more}
-use Rattle.constraints.proofs.Supers.{super-falls}
-use borrow.Author.Rules.{rules}
+use Rattle.constraints.proofs.Choices.{Met, Swept}
 use Rattle.constraints.proofs.choosing.search_all.Given as goal
 
 abbrev pub invariant-loop-p : goal.invariant-loop-p

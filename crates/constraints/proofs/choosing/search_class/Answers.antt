@@ -3,7 +3,6 @@ use Prim.Native.Nat.{ℕ}
 use lib.ListN.{replicate, length-replicate}
 use Rattle.constraints.specs.Walks.{ends_in}
 use Rattle.constraints.proofs.Choices.{zeroed, dist-low, chosen-for}
-use borrow.Author.Rules.{rules}
 use Rattle.constraints.proofs.choosing.search_class.Goals as goal
 
 pub seed-seeds-requires : goal.seed-seeds-requires

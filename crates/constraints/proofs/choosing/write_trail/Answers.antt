@@ -1,10 +1,8 @@
 -- The first i cells are written, and what is left of the chain follows them.
-use Prim.Native.Nat.{◌-◌, ◌≤◌}
-use mathlib.Core.Path.{◌≡◌, sym, ◌∙◌}
+use mathlib.Core.Path.{sym, ◌∙◌}
 use native.Mathlib.Omega.{arith}
-use lib.ListN.{length, length-set}
-use Rattle.constraints.proofs.Choices.{Written, written_none, written-more, written_all}
-use borrow.Author.Rules.{rules}
+use lib.ListN.{length-set}
+use Rattle.constraints.proofs.Choices.{written_none, written-more, written_all}
 use Rattle.constraints.proofs.choosing.write_trail.Goals as goal
 
 pub loop-i-init : goal.loop-i-init

@@ -1,9 +1,7 @@
 use Prim.Native.Nat.{◌-◌, ◌≤◌}
-use mathlib.Core.Path.{◌≡◌, sym, ◌∙◌}
-use native.Mathlib.Omega.{arith}
-use lib.ListN.{length, length-set}
-use Rattle.constraints.proofs.Choices.{Written, written_none, written-more, written_all}
-use borrow.Author.Rules.{rules}
+use mathlib.Core.Path.{◌≡◌}
+use lib.ListN.{length}
+use Rattle.constraints.proofs.Choices.{Written}
 use Rattle.constraints.proofs.choosing.write_trail.Given as goal
 
 abbrev pub invariant-loop-i : goal.invariant-loop-i

@@ -1,10 +1,8 @@
 -- The first p places are their own labels.
-use Prim.Native.Nat.{ℕ, ◌-◌, ◌<◌, ◌≤◌}
 use mathlib.Core.Path.{◌≡◌, refl, ◌∙◌}
 use native.Mathlib.Omega.{arith}
-use lib.ListN.{length, get_or, length-set}
+use lib.ListN.{length-set}
 use Rattle.constraints.proofs.Filling.{fill_more}
-use borrow.Author.Rules.{rules}
 use Rattle.constraints.proofs.grouping.label_alone.Goals as goal
 
 pub loop-p-init : goal.loop-p-init

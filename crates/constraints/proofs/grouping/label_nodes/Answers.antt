@@ -1,11 +1,9 @@
 -- The rows from i on have given their labels.
-use Prim.Native.Nat.{ℕ, ◌+◌, ◌-◌, ◌<◌, ◌≤◌}
+use Prim.Native.Nat.{◌+◌, ◌-◌, ◌<◌}
 use mathlib.Core.Path.{◌≡◌, refl, ◌∙◌}
 use native.Mathlib.Omega.{arith}
 use lib.ListN.{length, get_or, set, length-set}
-use Rattle.constraints.specs.Groups.{label_from}
 use Rattle.constraints.proofs.Labelling.{label-none, label-before}
-use borrow.Author.Rules.{rules}
 use Rattle.constraints.proofs.grouping.label_nodes.Goals as goal
 
 pub loop-i-init : goal.loop-i-init
@@ -24,10 +22,14 @@ bounds-labels-one c = (let it : c.wide16-one.result < length c.loop-i.labels = l
     omega (arith, pre.0, pre.2, loop.invariant.0, loop.invariant.2, c.loop-i-test.true, c.wide16-one.ensures.0, pre.3 (args.ones + (loop.i - 1)) (omega (arith, loop.invariant.0, c.loop-i-test.true))) in it)
 
 pub bounds-labels-two : goal.bounds-labels-two
-bounds-labels-two c = omega (arith, (let it : c.wide16-two.result < length c.loop-i.labels = let args = c.args in
-    let pre = c.requires in
-    let loop = c.loop-i in
-    omega (arith, pre.0, pre.2, loop.invariant.0, loop.invariant.2, c.loop-i-test.true, c.wide16-two.ensures.0, pre.3 (args.ones + args.tied + (loop.i - 1)) (omega (arith, loop.invariant.0, c.loop-i-test.true))) in it), length-set c.loop-i.labels c.wide16-one.result (1280 + c.from16-label.result))
+bounds-labels-two c = omega (
+  arith,
+  (let it : c.wide16-two.result < length c.loop-i.labels = let args = c.args in
+      let pre = c.requires in
+      let loop = c.loop-i in
+      omega (arith, pre.0, pre.2, loop.invariant.0, loop.invariant.2, c.loop-i-test.true, c.wide16-two.ensures.0, pre.3 (args.ones + args.tied + (loop.i - 1)) (omega (arith, loop.invariant.0, c.loop-i-test.true))) in it),
+  length-set c.loop-i.labels c.wide16-one.result (1280 + c.from16-label.result),
+)
 
 pub loop-i-preserved : goal.loop-i-preserved
 loop-i-preserved c =
@@ -36,12 +38,12 @@ loop-i-preserved c =
     let is : 1280 + c.from16-label.result ≡ 1280 + get_or args.beside.now (loop.i - 1) 0 = omega (arith, c.from16-label.ensures.0, c.at16.ensures) in (
       omega (arith, loop.invariant.0),
       label-before args.nodes.now loop.labels args.beside.now args.ones args.tied loop.i args.ones c.wide16-one.result c.wide16-two.result (1280 + c.from16-label.result) c.loop-i-test.true loop.invariant.0 is c.wide16-one.ensures.0 c.wide16-two.ensures.0 ((let it : c.wide16-one.result < length c.loop-i.labels = let args = c.args in
-    let pre = c.requires in
-    let loop = c.loop-i in
-    omega (arith, pre.0, pre.2, loop.invariant.0, loop.invariant.2, c.loop-i-test.true, c.wide16-one.ensures.0, pre.3 (args.ones + (loop.i - 1)) (omega (arith, loop.invariant.0, c.loop-i-test.true))) in it)) ((let it : c.wide16-two.result < length c.loop-i.labels = let args = c.args in
-    let pre = c.requires in
-    let loop = c.loop-i in
-    omega (arith, pre.0, pre.2, loop.invariant.0, loop.invariant.2, c.loop-i-test.true, c.wide16-two.ensures.0, pre.3 (args.ones + args.tied + (loop.i - 1)) (omega (arith, loop.invariant.0, c.loop-i-test.true))) in it)) loop.invariant.1,
+          let pre = c.requires in
+          let loop = c.loop-i in
+          omega (arith, pre.0, pre.2, loop.invariant.0, loop.invariant.2, c.loop-i-test.true, c.wide16-one.ensures.0, pre.3 (args.ones + (loop.i - 1)) (omega (arith, loop.invariant.0, c.loop-i-test.true))) in it)) ((let it : c.wide16-two.result < length c.loop-i.labels = let args = c.args in
+          let pre = c.requires in
+          let loop = c.loop-i in
+          omega (arith, pre.0, pre.2, loop.invariant.0, loop.invariant.2, c.loop-i-test.true, c.wide16-two.ensures.0, pre.3 (args.ones + args.tied + (loop.i - 1)) (omega (arith, loop.invariant.0, c.loop-i-test.true))) in it)) loop.invariant.1,
       length-set (set loop.labels c.wide16-one.result (1280 + c.from16-label.result)) c.wide16-two.result (1280 + c.from16-label.result) ∙ (length-set loop.labels c.wide16-one.result (1280 + c.from16-label.result) ∙ loop.invariant.2),
     )
 

@@ -1,10 +1,7 @@
-use Prim.Native.Nat.{ℕ, ◌+◌, ◌-◌, ◌<◌, ◌≤◌}
-use mathlib.Core.Path.{◌≡◌, refl, ◌∙◌}
-use native.Mathlib.Omega.{arith}
-use lib.ListN.{length, get_or, set, length-set}
+use Prim.Native.Nat.{ℕ, ◌-◌, ◌<◌, ◌≤◌}
+use mathlib.Core.Path.{◌≡◌}
+use lib.ListN.{length, get_or}
 use Rattle.constraints.specs.Groups.{label_from}
-use Rattle.constraints.proofs.Labelling.{label-none, label-before}
-use borrow.Author.Rules.{rules}
 use Rattle.constraints.proofs.grouping.label_nodes.Given as goal
 
 abbrev pub invariant-loop-i : goal.invariant-loop-i

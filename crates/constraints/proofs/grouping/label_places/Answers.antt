@@ -1,12 +1,10 @@
 -- The first p places have the labels of their nodes; the others are as they were. A node is its own node, so what was written of it is what it was.
-use Prim.Native.Nat.{ℕ, ◌-◌, ◌<◌, ◌≤◌}
 use mathlib.Core.Path.{◌≡◌, refl, ◌∙◌}
 use native.Mathlib.Omega.{arith}
-use lib.ListN.{length, get_or, length-set}
+use lib.ListN.{get_or, length-set}
 use lib.Seq.{get_or-set_other}
 use Rattle.constraints.proofs.Filling.{fill_more}
 use Rattle.constraints.proofs.Labelling.{label_kept}
-use borrow.Author.Rules.{rules}
 use Rattle.constraints.proofs.grouping.label_places.Goals as goal
 
 pub loop-p-init : goal.loop-p-init

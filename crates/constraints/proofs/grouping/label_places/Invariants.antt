@@ -1,11 +1,6 @@
 use Prim.Native.Nat.{ℕ, ◌-◌, ◌<◌, ◌≤◌}
-use mathlib.Core.Path.{◌≡◌, refl, ◌∙◌}
-use native.Mathlib.Omega.{arith}
-use lib.ListN.{length, get_or, length-set}
-use lib.Seq.{get_or-set_other}
-use Rattle.constraints.proofs.Filling.{fill_more}
-use Rattle.constraints.proofs.Labelling.{label_kept}
-use borrow.Author.Rules.{rules}
+use mathlib.Core.Path.{◌≡◌}
+use lib.ListN.{length, get_or}
 use Rattle.constraints.proofs.grouping.label_places.Given as goal
 
 abbrev pub invariant-loop-p : goal.invariant-loop-p

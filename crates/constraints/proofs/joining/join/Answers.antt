@@ -1,11 +1,9 @@
 -- The first e places are joined.
-use Prim.Native.Nat.{◌-◌, ◌<◌, ◌≤◌}
+use Prim.Native.Nat.{◌<◌}
 use mathlib.Core.Path.{◌≡◌, sym, ◌∙◌}
 use native.Mathlib.Omega.{arith}
-use Rattle.constraints.specs.Joining.{Joined}
 use Rattle.constraints.specs.Search.{start_of}
 use Rattle.constraints.proofs.Filling.{joined-more}
-use borrow.Author.Rules.{rules}
 use Rattle.constraints.proofs.joining.join.Goals as goal
 
 pub loop-e-init : goal.loop-e-init

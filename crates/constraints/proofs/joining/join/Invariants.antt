@@ -1,10 +1,6 @@
-use Prim.Native.Nat.{◌-◌, ◌<◌, ◌≤◌}
-use mathlib.Core.Path.{◌≡◌, sym, ◌∙◌}
-use native.Mathlib.Omega.{arith}
+use Prim.Native.Nat.{◌-◌, ◌≤◌}
 use Rattle.constraints.specs.Joining.{Joined}
 use Rattle.constraints.specs.Search.{start_of}
-use Rattle.constraints.proofs.Filling.{joined-more}
-use borrow.Author.Rules.{rules}
 use Rattle.constraints.proofs.joining.join.Given as goal
 
 abbrev pub invariant-loop-e : goal.invariant-loop-e

@@ -1,6 +1,5 @@
 -- A node that was not found is; of two links that lead on from one that was found in this round, the one whose row goes first is kept.
 use mathlib.Core.Path.{sym, ◌∙◌}
-use borrow.Author.Rules.{rules}
 use Rattle.constraints.proofs.Spreading.{look-fresh, look-sooner, look-later, look-old}
 use Rattle.constraints.proofs.layers.look_at.Goals as goal
 

@@ -2,9 +2,7 @@
 use Prim.Native.Nat.{◌-◌}
 use mathlib.Core.Path.{sym, ◌∙◌}
 use native.Mathlib.Omega.{arith}
-use borrow.Author.Rules.{rules}
-use Rattle.constraints.specs.Walks.{found}
-use Rattle.constraints.proofs.Spreading.{Looking, looking-none, looking-one, looking-sized, looking-all}
+use Rattle.constraints.proofs.Spreading.{looking-none, looking-one, looking-sized, looking-all}
 use Rattle.constraints.proofs.layers.look_back.Goals as goal
 
 pub loop-follow-init : goal.loop-follow-init

@@ -1,9 +1,5 @@
-use Prim.Native.Nat.{◌-◌}
-use mathlib.Core.Path.{sym, ◌∙◌}
-use native.Mathlib.Omega.{arith}
-use borrow.Author.Rules.{rules}
 use Rattle.constraints.specs.Walks.{found}
-use Rattle.constraints.proofs.Spreading.{Looking, looking-none, looking-one, looking-sized, looking-all}
+use Rattle.constraints.proofs.Spreading.{Looking}
 use Rattle.constraints.proofs.layers.look_back.Given as goal
 
 abbrev pub invariant-loop-follow : goal.invariant-loop-follow

@@ -1,10 +1,7 @@
 -- The links that lead to the nodes before place i were looked at.
-use Prim.Native.Nat.{◌-◌, ◌≤◌}
 use mathlib.Core.Path.{sym, ◌∙◌}
 use native.Mathlib.Omega.{arith}
-use borrow.Author.Rules.{rules}
-use Rattle.constraints.specs.Walks.{found}
-use Rattle.constraints.proofs.Spreading.{Backward, backward-none, backward-one, backward-sized, backward-node, backward-tail, backward-all}
+use Rattle.constraints.proofs.Spreading.{backward-none, backward-one, backward-sized, backward-node, backward-tail, backward-all}
 use Rattle.constraints.proofs.layers.next_layer.Goals as goal
 
 pub loop-i-init : goal.loop-i-init

@@ -1,9 +1,6 @@
 use Prim.Native.Nat.{◌-◌, ◌≤◌}
-use mathlib.Core.Path.{sym, ◌∙◌}
-use native.Mathlib.Omega.{arith}
-use borrow.Author.Rules.{rules}
 use Rattle.constraints.specs.Walks.{found}
-use Rattle.constraints.proofs.Spreading.{Backward, backward-none, backward-one, backward-sized, backward-node, backward-tail, backward-all}
+use Rattle.constraints.proofs.Spreading.{Backward}
 use Rattle.constraints.proofs.layers.next_layer.Given as goal
 
 abbrev pub invariant-loop-i : goal.invariant-loop-i

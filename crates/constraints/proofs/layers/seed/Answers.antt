@@ -1,9 +1,7 @@
 -- The requests before place q were looked at.
-use Prim.Native.Nat.{◌-◌, ◌≤◌}
 use mathlib.Core.Path.{sym, ◌∙◌}
 use native.Mathlib.Omega.{arith}
-use borrow.Author.Rules.{rules}
-use Rattle.constraints.proofs.Spreading.{Seeds, seeded-none, seeds-next, seeds-room, seeds-end}
+use Rattle.constraints.proofs.Spreading.{seeded-none, seeds-next, seeds-room, seeds-end}
 use Rattle.constraints.proofs.layers.seed.Goals as goal
 
 pub loop-q-init : goal.loop-q-init
@@ -27,4 +25,4 @@ pub shape_of-queue : goal.shape_of-queue
 shape_of-queue c = (seeds-room _ _ _ _ _ _ _ _ _ c.loop-q.invariant.1).1 ∙ sym c.requires.2
 
 pub returns : goal.returns
-returns c = seeds-end _ _ _ _ _ _ _ _ _ _ c.loop-q.invariant.0 c.loop-q-test.false c.loop-q.invariant.1 ways l
+returns c ways l = seeds-end _ _ _ _ _ _ _ _ _ _ c.loop-q.invariant.0 c.loop-q-test.false c.loop-q.invariant.1 ways l

@@ -1,8 +1,5 @@
 use Prim.Native.Nat.{◌-◌, ◌≤◌}
-use mathlib.Core.Path.{sym, ◌∙◌}
-use native.Mathlib.Omega.{arith}
-use borrow.Author.Rules.{rules}
-use Rattle.constraints.proofs.Spreading.{Seeds, seeded-none, seeds-next, seeds-room, seeds-end}
+use Rattle.constraints.proofs.Spreading.{Seeds}
 use Rattle.constraints.proofs.layers.seed.Given as goal
 
 abbrev pub invariant-loop-q : goal.invariant-loop-q

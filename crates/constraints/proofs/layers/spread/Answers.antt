@@ -1,9 +1,7 @@
 -- Layer after layer was found; the search ends where one is empty, or after as many as the limit says.
-use Prim.Native.Nat.{◌-◌}
 use mathlib.Core.Path.{refl, sym, ◌∙◌}
 use native.Mathlib.Omega.{arith}
-use Rattle.constraints.specs.Walks.{found}
-use Rattle.constraints.proofs.Spreading.{Spreads, spreads-first, spreads-next, spreads-far, spreads-all}
+use Rattle.constraints.proofs.Spreading.{spreads-first, spreads-next, spreads-far, spreads-all}
 use Rattle.constraints.proofs.layers.spread.Goals as goal
 
 pub loop-low-init : goal.loop-low-init

@@ -1,8 +1,6 @@
 use Prim.Native.Nat.{◌-◌}
-use mathlib.Core.Path.{refl, sym, ◌∙◌}
-use native.Mathlib.Omega.{arith}
 use Rattle.constraints.specs.Walks.{found}
-use Rattle.constraints.proofs.Spreading.{Spreads, spreads-first, spreads-next, spreads-far, spreads-all}
+use Rattle.constraints.proofs.Spreading.{Spreads}
 use Rattle.constraints.proofs.layers.spread.Given as goal
 
 abbrev pub invariant-loop-low : goal.invariant-loop-low

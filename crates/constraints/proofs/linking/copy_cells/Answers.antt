@@ -1,10 +1,9 @@
 -- The first i cells are copied, and what lies below the first of them stays.
-use Prim.Native.Nat.{ℕ, ◌+◌, ◌-◌, ◌<◌, ◌≤◌}
+use Prim.Native.Nat.{◌+◌}
 use mathlib.Core.Path.{◌≡◌, refl, ◌∙◌}
 use native.Mathlib.Omega.{arith}
-use lib.ListN.{length, length-set, get_or}
+use lib.ListN.{length-set, get_or}
 use Rattle.constraints.proofs.Filling.{fill_more, kept_set}
-use borrow.Author.Rules.{rules}
 use Rattle.constraints.proofs.linking.copy_cells.Goals as goal
 
 pub loop-i-init : goal.loop-i-init

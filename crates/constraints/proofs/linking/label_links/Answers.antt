@@ -1,5 +1,4 @@
 -- The ties' numbers twice, then the subtype constraints'.
-use borrow.Author.Rules.{rules}
 use Rattle.constraints.proofs.Linked.{labelled_by}
 use Rattle.constraints.proofs.linking.label_links.Goals as goal
 

@@ -1,5 +1,4 @@
 -- Five blocks of nodes, each copied behind the one before.
-use borrow.Author.Rules.{rules}
 use Rattle.constraints.proofs.Linked.{linked-by}
 use Rattle.constraints.proofs.linking.link_nodes.Goals as goal
 

@@ -3,7 +3,6 @@ use Prim.Native.Nat.{ℕ}
 use mathlib.Core.Path.{ap, sym, ◌∙◌}
 use Rattle.constraints.specs.Looking.{lead_of}
 use Rattle.constraints.proofs.Looks.{lead-other}
-use borrow.Author.Rules.{rules}
 use Rattle.constraints.proofs.looking.beside.Goals as goal
 
 pub returns-then-turn-eq1 : goal.returns-then-turn-eq1

@@ -1,11 +1,9 @@
 -- No link that was passed ends at the group.
-use Prim.Native.Nat.{ℕ, ◌-◌, ◌<◌, ◌≤◌}
-use mathlib.Core.Path.{◌≡◌, sym, ◌∙◌}
+use mathlib.Core.Path.{sym, ◌∙◌}
 use mathlib.Core.Bool.{false≢true}
 use native.Mathlib.Omega.{arith}
 use borrow.Author.Count.{below_more}
 use Rattle.constraints.specs.Search.{start_of}
-use borrow.Author.Rules.{rules}
 use Rattle.constraints.proofs.looking.is_end.Goals as goal
 
 pub loop-e-init : goal.loop-e-init

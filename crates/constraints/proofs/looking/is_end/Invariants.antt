@@ -1,10 +1,6 @@
 use Prim.Native.Nat.{ℕ, ◌-◌, ◌<◌, ◌≤◌}
-use mathlib.Core.Path.{◌≡◌, sym, ◌∙◌}
-use mathlib.Core.Bool.{false≢true}
-use native.Mathlib.Omega.{arith}
-use borrow.Author.Count.{below_more}
+use mathlib.Core.Path.{◌≡◌}
 use Rattle.constraints.specs.Search.{start_of}
-use borrow.Author.Rules.{rules}
 use Rattle.constraints.proofs.looking.is_end.Given as goal
 
 abbrev pub invariant-loop-e : goal.invariant-loop-e

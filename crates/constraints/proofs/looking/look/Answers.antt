@@ -5,7 +5,6 @@ use mathlib.Core.Logic.{⊎_elim}
 use native.Mathlib.Numerals.{add-one}
 use Rattle.constraints.proofs.Marking.{stamped-more}
 use Rattle.constraints.proofs.Looks.{later-ties, later-none, later-linked}
-use borrow.Author.Rules.{rules}
 use Rattle.constraints.proofs.looking.look.Goals as goal
 
 pub look_first-requires : goal.look_first-requires
@@ -36,4 +35,4 @@ returns c =
     let ahead = c.look_ahead in
     let marks = ⊎_elim (λ z. absurd (c.if-noted-eq0.false z)) (λ m. m) pre.6.full in
     later-linked _ _ _ _ _ _ pre.6 (omega (arith, c.if-turn-eq0.false, c.if-turn-eq1.false)) (omega arith) marks.ins_are.long (sym c.place.ensures.0 ∙ c.if-place-a.false)
-    (rw (add-one _) at ahead.ensures.0) (rw (add-one _) at ahead.ensures.1) (ahead.auto.1.1.1.1.1.1.1.1.1.1.0 ∙ marks.queue_long)
+    (rw (add-one _) at ahead.ensures.0) (rw (add-one _) at ahead.ensures.1) (ahead.auto.queue ∙ marks.queue_long)

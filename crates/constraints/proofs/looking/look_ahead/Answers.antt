@@ -2,7 +2,6 @@
 use Prim.Native.Nat.{◌+◌}
 use native.Mathlib.Omega.{arith}
 use Rattle.constraints.specs.Search.{start_of}
-use borrow.Author.Rules.{rules}
 use Rattle.constraints.proofs.looking.look_ahead.Goals as goal
 
 pub search-requires : goal.search-requires

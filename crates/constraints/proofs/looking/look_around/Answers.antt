@@ -4,7 +4,6 @@ use native.Mathlib.Omega.{arith}
 use mathlib.Core.Path.{◌∙◌}
 use Rattle.constraints.specs.Search.{start_of}
 use Rattle.constraints.proofs.Searching.{reached}
-use borrow.Author.Rules.{rules}
 use Rattle.constraints.proofs.looking.look_around.Goals as goal
 
 pub search-requires : goal.search-requires

@@ -1,11 +1,9 @@
 -- No link ends at the group, or the search marks all that leads to it.
 use Prim.Native.Nat.{◌+◌}
 use native.Mathlib.Omega.{arith}
-use borrow.Author.Tests.{not-true}
 use Rattle.constraints.specs.Search.{start_of}
 use Rattle.constraints.proofs.Filling.{joined-none}
 use Rattle.constraints.proofs.Searching.{reached, reached-none}
-use borrow.Author.Rules.{rules}
 use Rattle.constraints.proofs.looking.look_back.Goals as goal
 
 pub returns-then-not-is_end : goal.returns-then-not-is_end

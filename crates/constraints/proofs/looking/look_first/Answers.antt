@@ -2,9 +2,7 @@
 use mathlib.Core.Path.{sym, ◌∙◌}
 use mathlib.Core.Logic.{⊎_elim}
 use native.Mathlib.Omega.{arith}
-use borrow.Author.Tests.{not-true}
 use Rattle.constraints.proofs.Looks.{first-unlinked, first-linked, no_start}
-use borrow.Author.Rules.{rules}
 use Rattle.constraints.proofs.looking.look_first.Goals as goal
 
 pub returns-then-noted-eq0 : goal.returns-then-noted-eq0
@@ -29,4 +27,4 @@ returns c =
     let pre = c.requires in
     let around = c.look_around in
     let long = ⊎_elim (λ z. absurd (c.if-noted-eq0.false z)) (λ m. m.queue_long) pre.5.full in
-    first-linked _ _ _ _ _ _ around.ensures.0 around.ensures.1 around.ensures.2 (around.auto.1.1.1.1.1.1.1.1.1.1.0 ∙ long)
+    first-linked _ _ _ _ _ _ around.ensures.0 around.ensures.1 around.ensures.2 (around.auto.queue ∙ long)

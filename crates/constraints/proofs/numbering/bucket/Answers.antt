@@ -1,7 +1,6 @@
 -- The quotient and the remainder are those of the definition.
 use native.Mathlib.Omega.{arith}
 use Rattle.constraints.specs.Nodes.{bucket_of}
-use borrow.Author.Rules.{rules}
 use Rattle.constraints.proofs.numbering.bucket.Goals as goal
 
 pub returns : goal.returns

@@ -1,11 +1,9 @@
 -- The first p cached requests have their classes.
-use Prim.Native.Nat.{◌+◌, ◌*◌, ◌-◌, ◌≤◌}
+use Prim.Native.Nat.{◌+◌, ◌*◌}
 use mathlib.Core.Path.{◌≡◌, refl, ◌∙◌}
 use native.Mathlib.Omega.{arith}
-use lib.ListN.{length, get_or, length-set}
-use Rattle.constraints.specs.Nodes.{ClassesOf}
+use lib.ListN.{get_or, length-set}
 use Rattle.constraints.proofs.Filling.{fill_more}
-use borrow.Author.Rules.{rules}
 use Rattle.constraints.proofs.numbering.list_classes.Goals as goal
 
 pub loop-p-init : goal.loop-p-init

@@ -1,10 +1,7 @@
-use Prim.Native.Nat.{◌+◌, ◌*◌, ◌-◌, ◌≤◌}
-use mathlib.Core.Path.{◌≡◌, refl, ◌∙◌}
-use native.Mathlib.Omega.{arith}
-use lib.ListN.{length, get_or, length-set}
+use Prim.Native.Nat.{◌-◌, ◌≤◌}
+use mathlib.Core.Path.{◌≡◌}
+use lib.ListN.{length}
 use Rattle.constraints.specs.Nodes.{ClassesOf}
-use Rattle.constraints.proofs.Filling.{fill_more}
-use borrow.Author.Rules.{rules}
 use Rattle.constraints.proofs.numbering.list_classes.Given as goal
 
 abbrev pub invariant-loop-p : goal.invariant-loop-p

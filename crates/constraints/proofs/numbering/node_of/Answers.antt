@@ -2,8 +2,7 @@
 use Prim.Native.Nat.{◌-◌}
 use mathlib.Core.Path.{◌≡◌}
 use native.Mathlib.Omega.{arith}
-use Rattle.constraints.proofs.Filling.{Following, follow-first, follow-next, node-found, node-own}
-use borrow.Author.Rules.{rules}
+use Rattle.constraints.proofs.Filling.{follow-first, follow-next, node-found, node-own}
 use Rattle.constraints.proofs.numbering.node_of.Goals as goal
 
 pub loop-follow-init : goal.loop-follow-init

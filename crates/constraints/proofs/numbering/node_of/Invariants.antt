@@ -1,8 +1,4 @@
-use Prim.Native.Nat.{◌-◌}
-use mathlib.Core.Path.{◌≡◌}
-use native.Mathlib.Omega.{arith}
-use Rattle.constraints.proofs.Filling.{Following, follow-first, follow-next, node-found, node-own}
-use borrow.Author.Rules.{rules}
+use Rattle.constraints.proofs.Filling.{Following}
 use Rattle.constraints.proofs.numbering.node_of.Given as goal
 
 abbrev pub invariant-loop-follow : goal.invariant-loop-follow

@@ -1,12 +1,10 @@
 -- The first p places have their nodes and are joined by their numbers.
-use Prim.Native.Nat.{◌-◌, ◌≤◌}
+use Prim.Native.Nat.{◌≤◌}
 use mathlib.Core.Path.{◌≡◌, refl, sym, ◌∙◌}
 use native.Mathlib.Omega.{arith}
-use lib.ListN.{length, length-set}
-use Rattle.constraints.specs.Joining.{Joined}
-use Rattle.constraints.specs.Nodes.{First, NodesOf, bucket_in}
+use lib.ListN.{length-set}
+use Rattle.constraints.specs.Nodes.{First}
 use Rattle.constraints.proofs.Filling.{fill_more, joined-first, joined-more, bucket-key}
-use borrow.Author.Rules.{rules}
 use Rattle.constraints.proofs.numbering.number_nodes.Goals as goal
 
 pub loop-p-init : goal.loop-p-init

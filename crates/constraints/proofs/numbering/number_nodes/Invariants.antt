@@ -1,11 +1,8 @@
 use Prim.Native.Nat.{◌-◌, ◌≤◌}
-use mathlib.Core.Path.{◌≡◌, refl, sym, ◌∙◌}
-use native.Mathlib.Omega.{arith}
-use lib.ListN.{length, length-set}
+use mathlib.Core.Path.{◌≡◌}
+use lib.ListN.{length}
 use Rattle.constraints.specs.Joining.{Joined}
-use Rattle.constraints.specs.Nodes.{First, NodesOf, bucket_in}
-use Rattle.constraints.proofs.Filling.{fill_more, joined-first, joined-more, bucket-key}
-use borrow.Author.Rules.{rules}
+use Rattle.constraints.specs.Nodes.{NodesOf, bucket_in}
 use Rattle.constraints.proofs.numbering.number_nodes.Given as goal
 
 abbrev pub invariant-loop-p : goal.invariant-loop-p

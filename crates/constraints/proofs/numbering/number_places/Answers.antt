@@ -1,6 +1,5 @@
 -- Five blocks of numbers, each behind the one before.
 use Rattle.constraints.proofs.Filling.{all-put}
-use borrow.Author.Rules.{rules}
 use Rattle.constraints.proofs.numbering.number_places.Goals as goal
 
 pub returns : goal.returns

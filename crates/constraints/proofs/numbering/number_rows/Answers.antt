@@ -1,11 +1,10 @@
 -- The first i rows have their numbers, and what lies below the first of them stays.
-use Prim.Native.Nat.{◌+◌, ◌-◌, ◌≤◌}
+use Prim.Native.Nat.{◌+◌}
 use mathlib.Core.Path.{◌≡◌, refl, ◌∙◌}
 use native.Mathlib.Omega.{arith}
-use lib.ListN.{length, length-set}
-use Rattle.constraints.specs.Nodes.{request_of, request_in, Numbers, Kept}
+use lib.ListN.{length-set}
+use Rattle.constraints.specs.Nodes.{request_of, request_in}
 use Rattle.constraints.proofs.Filling.{fill_more, kept_set}
-use borrow.Author.Rules.{rules}
 use Rattle.constraints.proofs.numbering.number_rows.Goals as goal
 
 pub loop-i-init : goal.loop-i-init

@@ -1,10 +1,7 @@
-use Prim.Native.Nat.{◌+◌, ◌-◌, ◌≤◌}
-use mathlib.Core.Path.{◌≡◌, refl, ◌∙◌}
-use native.Mathlib.Omega.{arith}
-use lib.ListN.{length, length-set}
-use Rattle.constraints.specs.Nodes.{request_of, request_in, Numbers, Kept}
-use Rattle.constraints.proofs.Filling.{fill_more, kept_set}
-use borrow.Author.Rules.{rules}
+use Prim.Native.Nat.{◌-◌, ◌≤◌}
+use mathlib.Core.Path.{◌≡◌}
+use lib.ListN.{length}
+use Rattle.constraints.specs.Nodes.{Numbers, Kept}
 use Rattle.constraints.proofs.numbering.number_rows.Given as goal
 
 abbrev pub invariant-loop-i : goal.invariant-loop-i

@@ -1,6 +1,5 @@
 -- A loader times 65,536 and a name below it are read back as the request's loader and name.
 use Rattle.constraints.proofs.Filling.{number-at}
-use borrow.Author.Rules.{rules}
 use Rattle.constraints.proofs.numbering.request_number.Goals as goal
 
 pub returns : goal.returns

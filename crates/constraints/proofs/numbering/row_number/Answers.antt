@@ -1,6 +1,5 @@
 -- The two cells of a row are those of its request.
 use Rattle.constraints.specs.Nodes.{request_in}
-use borrow.Author.Rules.{rules}
 use Rattle.constraints.proofs.numbering.row_number.Goals as goal
 
 pub returns-then-row-t : goal.returns-then-row-t

@@ -1,7 +1,6 @@
 -- A pair is not marked, or the classes decide it.
 use mathlib.Core.Path.{sym, ◌∙◌}
 use Rattle.constraints.proofs.Pairing.{marked-into, unmarked-into}
-use borrow.Author.Rules.{rules}
 use Rattle.constraints.proofs.pairs.in_agrees.Goals as goal
 
 pub returns-then-at16-stamp : goal.returns-then-at16-stamp

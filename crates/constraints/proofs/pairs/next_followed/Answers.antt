@@ -1,7 +1,6 @@
 -- No place that was passed is marked.
-use Prim.Native.Nat.{ℕ, ◌+◌, ◌-◌, ◌<◌, ◌≤◌}
+use Prim.Native.Nat.{◌+◌}
 use native.Mathlib.Omega.{arith}
-use Rattle.constraints.specs.Search.{Marked}
 use Rattle.constraints.proofs.Pairing.{met-after, unmarked-on}
 use Rattle.constraints.proofs.pairs.next_followed.Goals as goal
 

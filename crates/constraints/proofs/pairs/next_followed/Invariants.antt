@@ -1,7 +1,5 @@
-use Prim.Native.Nat.{ℕ, ◌+◌, ◌-◌, ◌<◌, ◌≤◌}
-use native.Mathlib.Omega.{arith}
+use Prim.Native.Nat.{ℕ, ◌-◌, ◌<◌, ◌≤◌}
 use Rattle.constraints.specs.Search.{Marked}
-use Rattle.constraints.proofs.Pairing.{met-after, unmarked-on}
 use Rattle.constraints.proofs.pairs.next_followed.Given as goal
 
 abbrev pub invariant-loop-b : goal.invariant-loop-b

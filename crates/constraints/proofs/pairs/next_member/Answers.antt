@@ -1,10 +1,7 @@
 -- Each request that was passed is the first of its group.
-use Prim.Native.Nat.{ℕ, ◌-◌, ◌<◌, ◌≤◌}
-use mathlib.Core.Path.{◌≡◌, sym, ◌∙◌}
+use mathlib.Core.Path.{sym, ◌∙◌}
 use native.Mathlib.Omega.{arith}
-use lib.ListN.{get_or}
 use borrow.Author.Count.{below_more}
-use borrow.Author.Rules.{rules}
 use Rattle.constraints.proofs.pairs.next_member.Goals as goal
 
 pub loop-b-init : goal.loop-b-init

@@ -1,6 +1,5 @@
 -- By who is looked at.
 use native.Mathlib.Omega.{arith}
-use borrow.Author.Rules.{rules}
 use Rattle.constraints.proofs.pairs.next_met.Goals as goal
 
 pub next_followed-requires : goal.next_followed-requires

@@ -1,9 +1,6 @@
 -- No place that was passed is marked.
-use Prim.Native.Nat.{ℕ, ◌-◌, ◌<◌, ◌≤◌}
 use native.Mathlib.Omega.{arith}
 use borrow.Author.Count.{below_more}
-use Rattle.constraints.specs.Search.{Marked}
-use borrow.Author.Rules.{rules}
 use Rattle.constraints.proofs.pairs.next_single.Goals as goal
 
 pub loop-b-init : goal.loop-b-init

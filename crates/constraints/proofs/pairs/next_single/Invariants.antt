@@ -1,8 +1,5 @@
 use Prim.Native.Nat.{ℕ, ◌-◌, ◌<◌, ◌≤◌}
-use native.Mathlib.Omega.{arith}
-use borrow.Author.Count.{below_more}
 use Rattle.constraints.specs.Search.{Marked}
-use borrow.Author.Rules.{rules}
 use Rattle.constraints.proofs.pairs.next_single.Given as goal
 
 abbrev pub invariant-loop-b : goal.invariant-loop-b

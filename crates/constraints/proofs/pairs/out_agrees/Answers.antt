@@ -2,7 +2,6 @@
 use mathlib.Core.Path.{sym, ◌∙◌}
 use Rattle.constraints.proofs.Pairing.{marked-out, unmarked-out}
 use Rattle.constraints.proofs.Supers.{above_same, above_other}
-use borrow.Author.Rules.{rules}
 use Rattle.constraints.proofs.pairs.out_agrees.Goals as goal
 
 pub returns-then-at16-stamp : goal.returns-then-at16-stamp

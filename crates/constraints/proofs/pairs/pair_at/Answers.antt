@@ -1,9 +1,7 @@
 -- Tied requests are judged by their classes, others by their marks.
 use mathlib.Core.Path.{sym, ◌∙◌}
-use borrow.Author.Tests.{not-true, not-false}
 use Rattle.constraints.specs.Pairs.{tied}
 use Rattle.constraints.proofs.Pairing.{judged-same, judged-out, judged-into, judged-both}
-use borrow.Author.Rules.{rules}
 use Rattle.constraints.proofs.pairs.pair_at.Goals as goal
 
 pub returns-then-at16 : goal.returns-then-at16

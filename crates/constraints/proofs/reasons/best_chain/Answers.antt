@@ -9,51 +9,47 @@ use Rattle.constraints.specs.Agreement.{at_most}
 use Rattle.constraints.specs.Walks.{InRange, Sole}
 use Rattle.constraints.proofs.Linked.{in-range, sole}
 use Rattle.constraints.proofs.Finding.{at-most-low, held-reason}
-use borrow.Author.Rules.{rules}
 use Rattle.constraints.proofs.reasons.best_chain.Goals as goal
+use Rattle.constraints.proofs.reasons.best_chain.Goals.{After-label_links}
 
 -- Once the links and their rows' numbers are listed
 
-module _ (c : tie.After-label-links) where
-  -- where the three counts are known
-  abbrev at21 : tie.After-at-most3
-  at21 = c.before.before.before.before.before.before.before.before.before.before.before.before.before.before.before.before.before.before.before.before.before
-
+module _ (c : After-label_links) where
   abbrev counts : List ℕ
-  counts = c.before.before.before.before.before.before.before.before.before.before.before.before.before.before.before.before.before.before.before.before.before.before.before.before.before.before.before.before.before.before.before.before.before.args.counts.now
+  counts = c.args.counts.now
 
   abbrev cached : ℕ
-  cached = at21.before.before.before.before.at-most.result
+  cached = c.at_most-cached.result
 
   abbrev tied : ℕ
-  tied = at21.before.before.at-most2.result
+  tied = c.at_most-tied.result
 
   abbrev noted : ℕ
-  noted = at21.at-most3.result
+  noted = c.at_most-noted.result
 
   abbrev froms : List ℕ
-  froms = c.before.before.before.before.link-nodes.new.1.1.1.1.0
+  froms = c.link_nodes.new.froms
 
   abbrev tos : List ℕ
-  tos = c.before.before.before.before.link-nodes.new.1.1.1.1.1.0
+  tos = c.link_nodes.new.tos
 
   abbrev labels : List ℕ
-  labels = c.label-links.new.1.1.1.0
+  labels = c.label_links.new.labels
 
   cached-is : cached ≡ at_most cache_limit (get_or counts count_cache 0)
-  cached-is = at21.before.before.before.before.at-most.ensures.0 ∙ ap (at_most cache_limit) at21.before.before.before.before.before.at16.ensures
+  cached-is = c.at_most-cached.ensures.0 ∙ ap (at_most cache_limit) c.at16.ensures
 
   tied_is : tied ≡ at_most cache_limit (get_or counts count_ties 0)
-  tied_is = at21.before.before.at-most2.ensures.0 ∙ ap (at_most cache_limit) at21.before.before.before.at162.ensures
+  tied_is = c.at_most-tied.ensures.0 ∙ ap (at_most cache_limit) c.at16-2.ensures
 
   noted-is : noted ≡ at_most cache_limit (get_or counts count_subtypes 0)
-  noted-is = at21.at-most3.ensures.0 ∙ ap (at_most cache_limit) at21.before.at163.ensures
+  noted-is = c.at_most-noted.ensures.0 ∙ ap (at_most cache_limit) c.at16-3.ensures
 
   range : (count : ℕ) → count ≤ tied + tied + noted → InRange froms tos count
-  range = in-range c.before.before.before.before.link-nodes.ensures c.before.before.before.before.before.before.before.before.before.before.before.before.before.before.number-nodes.ensures at21.before.before.before.before.at-most.ensures.1 at21.at-most3.ensures.1 at21.before.before.at-most2.ensures.1
+  range = in-range c.link_nodes.ensures c.number_nodes.ensures c.at_most-cached.ensures.1 c.at_most-noted.ensures.1 c.at_most-tied.ensures.1
 
   alone : (count : ℕ) → count ≤ tied + tied + noted → Sole froms tos labels count
-  alone = sole c.before.before.before.before.link-nodes.ensures c.label-links.ensures c.before.before.before.before.before.before.before.before.before.before.before.before.before.before.before.before.before.before.before.before.before.before.before.before.before.before.before.before.before.before.before.before.before.requires.0
+  alone = sole c.link_nodes.ensures c.label_links.ensures c.requires.0
       (omega (arith, tied_is, at-most-low cache_limit (get_or counts count_ties 0))) (omega (arith, noted-is, at-most-low cache_limit (get_or counts count_subtypes 0)))
 
 pub list_classes-requires : goal.list_classes-requires
@@ -65,13 +61,14 @@ overflow_add-turned-2 c = omega (arith, c.at_most-noted.ensures.1, c.at_most-tie
 
 pub search_links-requires : goal.search_links-requires
 search_links-requires c =
-    (c.at_most-cached.ensures.1, omega arith, range c _ (omega arith), alone c _ (omega arith), c.requires.1)
+    let d = (goal.at.search_links-requires c).After-label_links in
+    (c.at_most-cached.ensures.1, omega arith, range d _ (omega arith), alone d _ (omega arith), c.requires.1)
 
 pub returns : goal.returns
 returns c =
-    (
+    let d = (goal.at.returns c).After-label_links in (
       c.search_links.ensures.0,
       held-reason c.number_places.ensures c.number_nodes.new.nodes c.list_classes.new.classes c.number_nodes.ensures c.list_classes.ensures
-          (counts c) (froms c) (tos c) (labels c) c.link_nodes.ensures c.label_links.ensures c.args.supers.now (cached-is c) (tied_is c) (noted-is c)
+          (counts d) (froms d) (tos d) (labels d) c.link_nodes.ensures c.label_links.ensures c.args.supers.now (cached-is d) (tied_is d) (noted-is d)
           c.requires.0 _ c.search_links.ensures.1,
     )

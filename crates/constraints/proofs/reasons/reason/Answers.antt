@@ -2,7 +2,6 @@
 use mathlib.Core.Path.{sym, ◌∙◌}
 use native.Mathlib.Omega.{arith}
 use borrow.Author.Rules.{rules}
-use borrow.Author.Tests.{not-true, not-false}
 use Rattle.constraints.proofs.Finding.{list-unfit, list-none, list-some, held_fits}
 use Rattle.constraints.proofs.reasons.reason.Goals as goal
 

@@ -2,7 +2,6 @@
 use mathlib.Core.Logic.{inl, inr}
 use mathlib.Core.Path.{refl, ◌∙◌}
 use native.Mathlib.Omega.{arith}
-use borrow.Author.Rules.{rules}
 use Rattle.constraints.proofs.Supers.{super-falls}
 use Rattle.constraints.proofs.Alones.{alone-best, chosen-best, fewer-range, fewer-sole, one-is-held, none-is-held}
 use Rattle.constraints.proofs.reasons.search_links.Goals as goal

@@ -1,10 +1,8 @@
 -- Before a cell is written, those behind it are.
 use mathlib.Core.Path.{◌∙◌, ◌≡◌, refl, ap}
-use Prim.Native.Nat.{◌≤◌}
 use native.Mathlib.Omega.{arith}
 use lib.ListN.{length, length-set}
-use borrow.Author.Rules.{rules}
-use Rattle.constraints.proofs.Writing.{written_from, write-none, write-more, write-all}
+use Rattle.constraints.proofs.Writing.{write-none, write-more, write-all}
 use Rattle.constraints.proofs.reasons.write_list.Goals as goal
 
 pub loop-i-init : goal.loop-i-init

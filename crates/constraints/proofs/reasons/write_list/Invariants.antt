@@ -1,9 +1,7 @@
-use mathlib.Core.Path.{◌∙◌, ◌≡◌, refl, ap}
+use mathlib.Core.Path.{◌≡◌}
 use Prim.Native.Nat.{◌≤◌}
-use native.Mathlib.Omega.{arith}
-use lib.ListN.{length, length-set}
-use borrow.Author.Rules.{rules}
-use Rattle.constraints.proofs.Writing.{written_from, write-none, write-more, write-all}
+use lib.ListN.{length}
+use Rattle.constraints.proofs.Writing.{written_from}
 use Rattle.constraints.proofs.reasons.write_list.Given as goal
 
 abbrev pub invariant-loop-i : goal.invariant-loop-i

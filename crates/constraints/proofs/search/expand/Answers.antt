@@ -3,8 +3,7 @@ use Prim.Native.Nat.{◌-◌}
 use mathlib.Core.Path.{sym, ◌∙◌}
 use native.Mathlib.Omega.{arith}
 use Rattle.constraints.specs.Search.{start_of}
-use Rattle.constraints.proofs.Searching.{Expanding, expanding-none, expanding-one, expanding-all}
-use borrow.Author.Rules.{rules}
+use Rattle.constraints.proofs.Searching.{expanding-none, expanding-one, expanding-all}
 use Rattle.constraints.proofs.search.expand.Goals as goal
 
 pub offset_bounds-heads-group : goal.offset_bounds-heads-group

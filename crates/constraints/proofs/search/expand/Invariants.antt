@@ -1,9 +1,4 @@
-use Prim.Native.Nat.{◌-◌}
-use mathlib.Core.Path.{sym, ◌∙◌}
-use native.Mathlib.Omega.{arith}
-use Rattle.constraints.specs.Search.{start_of}
-use Rattle.constraints.proofs.Searching.{Expanding, expanding-none, expanding-one, expanding-all}
-use borrow.Author.Rules.{rules}
+use Rattle.constraints.proofs.Searching.{Expanding}
 use Rattle.constraints.proofs.search.expand.Given as goal
 
 abbrev pub invariant-loop-follow : goal.invariant-loop-follow

@@ -1,8 +1,7 @@
 -- What is marked is led to, and the links of the request and of the first `done` queued groups were visited.
-use Prim.Native.Nat.{◌-◌}
 use mathlib.Core.Path.{sym, ◌∙◌}
 use native.Mathlib.Omega.{arith}
-use Rattle.constraints.proofs.Searching.{Searching, searching-start, searching-one, searched, queued-none, none-marked, tail-low, queue-low}
+use Rattle.constraints.proofs.Searching.{searching-start, searching-one, searched, queued-none, none-marked, tail-low, queue-low}
 use Rattle.constraints.proofs.search.search.Goals as goal
 
 pub expand-tail-requires : goal.expand-tail-requires

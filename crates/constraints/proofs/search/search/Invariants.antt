@@ -1,7 +1,5 @@
 use Prim.Native.Nat.{◌-◌}
-use mathlib.Core.Path.{sym, ◌∙◌}
-use native.Mathlib.Omega.{arith}
-use Rattle.constraints.proofs.Searching.{Searching, searching-start, searching-one, searched, queued-none, none-marked, tail-low, queue-low}
+use Rattle.constraints.proofs.Searching.{Searching}
 use Rattle.constraints.proofs.search.search.Given as goal
 
 abbrev pub invariant-loop-done : goal.invariant-loop-done

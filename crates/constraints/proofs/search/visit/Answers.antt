@@ -2,7 +2,6 @@
 use Prim.Native.Nat.{◌<◌}
 use native.Mathlib.Omega.{arith}
 use Rattle.constraints.proofs.Searching.{visit-old, visit-low, visit-new, room}
-use borrow.Author.Rules.{rules}
 use Rattle.constraints.proofs.search.visit.Goals as goal
 
 pub returns-then-marks-group : goal.returns-then-marks-group

@@ -1,6 +1,5 @@
 -- Both requests are cached, and the second's class is bad for the first's.
 use mathlib.Core.Path.{sym, ◌∙◌}
-use borrow.Author.Rules.{rules}
 use Rattle.constraints.proofs.Alones.{alone-from, alone-to, alone-both}
 use Rattle.constraints.proofs.singles.breaks_alone.Goals as goal
 

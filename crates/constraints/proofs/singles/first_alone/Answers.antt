@@ -1,12 +1,6 @@
 -- The first e links were looked at.
-use Prim.Native.Nat.{◌-◌, ◌≤◌}
-use mathlib.Core.Path.{◌≡◌, sym, ◌∙◌}
+use mathlib.Core.Path.{sym, ◌∙◌}
 use native.Mathlib.Omega.{arith}
-use borrow.Author.Rules.{rules}
-use lib.ListN.{length}
-use Rattle.constraints.specs.Nodes.{place_limit}
-use Rattle.constraints.specs.Agreement.{super_in}
-use Rattle.constraints.specs.Choosing.{held, OneSize, Alone}
 use Rattle.constraints.proofs.Alones.{alone-none, alone-next, alone-end}
 use Rattle.constraints.proofs.singles.first_alone.Goals as goal
 
@@ -20,7 +14,7 @@ pub loop-e-preserved : goal.loop-e-preserved
 loop-e-preserved c =
     let inv = c.loop-e.invariant in
     let one = c.consider_alone-kept in
-    (omega (arith, c.loop-e-test.true), one.ensures.0, one.auto.1.1.1.1.1.1.1.1.0 ∙ inv.2, alone-next _ _ _ _ _ _ _ _ _ _ _ _ c.loop-e-test.true inv.3 one.ensures.1)
+    (omega (arith, c.loop-e-test.true), one.ensures.0, one.auto.best ∙ inv.2, alone-next _ _ _ _ _ _ _ _ _ _ _ _ c.loop-e-test.true inv.3 one.ensures.1)
 
 pub shape_of-best : goal.shape_of-best
 shape_of-best c = c.loop-e.invariant.2 ∙ sym c.requires.2

@@ -1,12 +1,9 @@
 use Prim.Native.Nat.{◌-◌, ◌≤◌}
-use mathlib.Core.Path.{◌≡◌, sym, ◌∙◌}
-use native.Mathlib.Omega.{arith}
-use borrow.Author.Rules.{rules}
+use mathlib.Core.Path.{◌≡◌}
 use lib.ListN.{length}
 use Rattle.constraints.specs.Nodes.{place_limit}
 use Rattle.constraints.specs.Agreement.{super_in}
 use Rattle.constraints.specs.Choosing.{held, OneSize, Alone}
-use Rattle.constraints.proofs.Alones.{alone-none, alone-next, alone-end}
 use Rattle.constraints.proofs.singles.first_alone.Given as goal
 
 abbrev pub invariant-loop-e : goal.invariant-loop-e

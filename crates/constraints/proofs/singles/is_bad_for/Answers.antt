@@ -1,6 +1,5 @@
 -- A class is not bad for itself; by ties alone every other is, by all links one that it isn't below.
 use mathlib.Core.Path.{sym}
-use borrow.Author.Rules.{rules}
 use Rattle.constraints.proofs.Supers.{super-falls}
 use Rattle.constraints.proofs.Alones.{self-good, tied-bad, led-bad}
 use Rattle.constraints.proofs.singles.is_bad_for.Goals as goal

@@ -2,7 +2,6 @@
 use mathlib.Core.Path.{◌∙◌}
 use native.Mathlib.Omega.{arith}
 use Rattle.constraints.proofs.Supers.{super-high, super-low}
-use borrow.Author.Rules.{rules}
 use Rattle.constraints.proofs.upward.above.Goals as goal
 
 pub returns-then-class-up : goal.returns-then-class-up

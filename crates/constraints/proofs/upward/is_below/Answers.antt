@@ -1,10 +1,6 @@
 -- The class is the other or below it exactly if the next one upward is.
-use Prim.Native.Nat.{◌-◌}
 use native.Mathlib.Omega.{arith}
-use borrow.Author.Rules.{rules}
-use Rattle.constraints.specs.Agreement.{super_in}
-use Rattle.constraints.proofs.Supers.{super-falls}
-use Rattle.constraints.proofs.Alones.{Climbing, climbing-first, climbing-here, climbing-on, climbing-end}
+use Rattle.constraints.proofs.Alones.{climbing-first, climbing-here, climbing-on, climbing-end}
 use Rattle.constraints.proofs.upward.is_below.Goals as goal
 
 pub loop-next-init : goal.loop-next-init

@@ -1,9 +1,6 @@
-use Prim.Native.Nat.{◌-◌}
-use native.Mathlib.Omega.{arith}
-use borrow.Author.Rules.{rules}
 use Rattle.constraints.specs.Agreement.{super_in}
 use Rattle.constraints.proofs.Supers.{super-falls}
-use Rattle.constraints.proofs.Alones.{Climbing, climbing-first, climbing-here, climbing-on, climbing-end}
+use Rattle.constraints.proofs.Alones.{Climbing}
 use Rattle.constraints.proofs.upward.is_below.Given as goal
 
 abbrev pub invariant-loop-next : goal.invariant-loop-next

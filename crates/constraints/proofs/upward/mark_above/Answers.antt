@@ -1,10 +1,7 @@
 -- What lies above the class is marked, or is the next class or above it.
 use mathlib.Core.Path.{sym, ◌∙◌}
 use native.Mathlib.Omega.{arith}
-use lib.ListN.{get_or}
-use Rattle.constraints.specs.Agreement.{super_in}
-use Rattle.constraints.proofs.Supers.{Raising, raising-start, raising-next, raised}
-use borrow.Author.Rules.{rules}
+use Rattle.constraints.proofs.Supers.{raising-start, raising-next, raised}
 use Rattle.constraints.proofs.upward.mark_above.Goals as goal
 
 pub loop-next-init : goal.loop-next-init

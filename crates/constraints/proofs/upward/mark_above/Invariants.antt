@@ -1,9 +1,6 @@
-use mathlib.Core.Path.{sym, ◌∙◌}
-use native.Mathlib.Omega.{arith}
 use lib.ListN.{get_or}
 use Rattle.constraints.specs.Agreement.{super_in}
-use Rattle.constraints.proofs.Supers.{Raising, raising-start, raising-next, raised}
-use borrow.Author.Rules.{rules}
+use Rattle.constraints.proofs.Supers.{Raising}
 use Rattle.constraints.proofs.upward.mark_above.Given as goal
 
 abbrev pub invariant-loop-next : goal.invariant-loop-next
