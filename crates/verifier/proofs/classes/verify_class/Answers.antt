@@ -20,14 +20,14 @@ verify_numbered-method-requires c = (let it : c.loop-j.j < method_count c.args.b
 pub returns-then-not-method : goal.returns-then-not-method
 returns-then-not-method c =
     rw c.rejected.ensures
-    (sym (class-stops _ _ _ _ _ _ _ ((let it : c.loop-j.j < method_count c.args.bytes.now = omega (arith, c.method_count-n.ensures, c.loop-j-test.true) in it)) _ c.if-not-method.true c.verify_numbered-method.ensures) ∙ c.loop-j.invariant.2)
+    (sym (class-stops _ _ _ _ _ _ _ ((let it : c.loop-j.j < method_count c.args.bytes.now = omega (arith, c.method_count-n.ensures, c.loop-j-test.true) in it)) _ (not-true _ c.if-not-method.true) c.verify_numbered-method.ensures) ∙ c.loop-j.invariant.2)
 
 pub loop-j-preserved : goal.loop-j-preserved
 loop-j-preserved c =
     (
       omega arith,
       c.verify_numbered-method.auto.subtypes ∙ c.loop-j.invariant.1,
-      sym (class-goes _ _ _ _ _ _ _ ((let it : c.loop-j.j < method_count c.args.bytes.now = omega (arith, c.method_count-n.ensures, c.loop-j-test.true) in it)) _ c.if-not-method.false c.verify_numbered-method.ensures) ∙ c.loop-j.invariant.2,
+      sym (class-goes _ _ _ _ _ _ _ ((let it : c.loop-j.j < method_count c.args.bytes.now = omega (arith, c.method_count-n.ensures, c.loop-j-test.true) in it)) _ (not-false _ c.if-not-method.false) c.verify_numbered-method.ensures) ∙ c.loop-j.invariant.2,
     )
 
 pub returns : goal.returns

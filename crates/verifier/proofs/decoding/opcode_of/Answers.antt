@@ -74,4 +74,4 @@ returns-in_default c =
       ne_eqb _ _ c.in_default.in_default-own.rest.0.1,
       ne_eqb _ _ c.in_default.in_default-own.rest.1,
     )
-    c.Later-of.ensures
+    c.later_of.ensures

@@ -12,11 +12,11 @@ use Rattle.verifier.proofs.effects.compared.Goals as goal
 
 pub returns-in_default : goal.returns-in_default
 unfolding outcome_of going effect types_of ◌>>=◌
-returns-in_default c = rw (popped-empty _ _ _ c.pop.ensures c.in_default.is)
+returns-in_default c o = rw (popped-empty _ _ _ c.pop.ensures c.in_default.is)
 
 pub returns-in_default-pop : goal.returns-in_default-pop
 unfolding outcome_of going effect types_of ◌>>=◌
-returns-in_default-pop c =
+returns-in_default-pop c o =
     rw (
       popped-top _ _ _ c.pop.ensures c.in-Top.is,
       popped-empty _ _ _ c.pop-2.ensures c.in_default-pop.is,
@@ -24,7 +24,7 @@ returns-in_default-pop c =
 
 pub returns-then-x-ne-INT : goal.returns-then-x-ne-INT
 unfolding outcome_of going effect types_of ◌>>=◌
-returns-then-x-ne-INT c =
+returns-then-x-ne-INT c o =
     rw (
       popped-top _ _ _ c.pop.ensures
           c.in-Top.is,
@@ -34,7 +34,7 @@ returns-then-x-ne-INT c =
 
 pub returns-then-y-ne-INT : goal.returns-then-y-ne-INT
 unfolding outcome_of going effect types_of ◌>>=◌
-returns-then-y-ne-INT c =
+returns-then-y-ne-INT c o =
     rw (
       popped-top _ _ _ c.pop.ensures
           c.in-Top.is,
@@ -45,7 +45,7 @@ returns-then-y-ne-INT c =
 
 pub returns : goal.returns
 unfolding outcome_of going effect types_of ◌>>=◌ notes_in values_trace meet_from
-returns c =
+returns c o =
     rw (
       popped-top _ _ _ c.pop.ensures
           c.in-Top.is,

@@ -8,18 +8,20 @@ use Rattle.verifier.specs.Answers.{outcome_of}
 use mathlib.Core.Path.{sym}
 use Rattle.verifier.proofs.EffectLaws.{of-kind, off-kind}
 use borrow.Author.Rules.{rules}
+use mathlib.Core.Path.{ap}
+use mathlib.Core.Bool.{not}
 use Rattle.verifier.proofs.effects.give_back.Goals as goal
 
 pub returns-then-not-of_kind : goal.returns-then-not-of_kind
 unfolding outcome_of ending returning ◌>>=◌
-returns-then-not-of_kind c = rw (sym c.type_of_name.ensures.0, off-kind _ _ _ c.of_kind.ensures c.if-not-of_kind.true)
+returns-then-not-of_kind c = rw (sym c.type_of_name.ensures.0, off-kind _ _ _ c.of_kind.ensures (ap not c.if-not-of_kind.true))
 
 pub returns-in_default : goal.returns-in_default
 unfolding outcome_of ending returning types_of ◌>>=◌
 returns-in_default c =
     rw (
       sym c.type_of_name.ensures.0,
-      of-kind _ _ _ c.of_kind.ensures c.if-not-of_kind.false,
+      of-kind _ _ _ c.of_kind.ensures (ap not c.if-not-of_kind.false),
       popped-empty _ _ _ c.pop.ensures c.in_default.is,
     )
 
@@ -28,7 +30,7 @@ unfolding outcome_of ending returning types_of ◌>>=◌
 returns c =
     rw (
       sym c.type_of_name.ensures.0,
-      of-kind _ _ _ c.of_kind.ensures c.if-not-of_kind.false,
+      of-kind _ _ _ c.of_kind.ensures (ap not c.if-not-of_kind.false),
       popped-top _ _ _ c.pop.ensures c.in-Top.is,
       c.meet_name.ensures,
     )

@@ -6,6 +6,8 @@ use Rattle.verifier.specs.Trace.{meet_from, values_trace}
 use Rattle.verifier.specs.Answers.{outcome_of}
 use Rattle.verifier.proofs.EffectLaws.{of-kind, off-kind, load-unset, load_set}
 use borrow.Author.Rules.{rules}
+use mathlib.Core.Path.{ap}
+use mathlib.Core.Bool.{not}
 use Rattle.verifier.proofs.effects.load.Goals as goal
 
 pub returns-then-t-eq-UNSET : goal.returns-then-t-eq-UNSET
@@ -17,7 +19,7 @@ unfolding outcome_of going ◌>>=◌
 returns-then-not-of_kind c =
     rw (
       load_set c.args.types _ _ _ c.local-t.ensures c.if-t-eq-UNSET.false,
-      off-kind _ _ _ c.of_kind.ensures c.if-not-of_kind.true,
+      off-kind _ _ _ c.of_kind.ensures (ap not c.if-not-of_kind.true),
     )
 
 pub returns : goal.returns
@@ -27,5 +29,5 @@ returns c =
       c.push.ensures,
       load_set c.args.types _ _ _ c.local-t.ensures
           c.if-t-eq-UNSET.false,
-      of-kind _ _ _ c.of_kind.ensures c.if-not-of_kind.false,
+      of-kind _ _ _ c.of_kind.ensures (ap not c.if-not-of_kind.false),
     )

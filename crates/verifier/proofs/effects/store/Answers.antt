@@ -7,6 +7,8 @@ use Rattle.verifier.specs.Effects.{going}
 use Rattle.verifier.specs.Answers.{outcome_of}
 use Rattle.verifier.proofs.EffectLaws.{of-kind, off-kind}
 use borrow.Author.Rules.{rules}
+use mathlib.Core.Path.{ap}
+use mathlib.Core.Bool.{not}
 use Rattle.verifier.proofs.effects.store.Goals as goal
 
 pub returns-in_default : goal.returns-in_default
@@ -18,7 +20,7 @@ unfolding outcome_of going effect types_of ◌>>=◌
 returns-then-not-of_kind c =
     rw (
       popped-top _ _ _ c.pop.ensures c.in-Top.is,
-      off-kind _ _ _ c.of_kind.ensures c.if-not-of_kind.true,
+      off-kind _ _ _ c.of_kind.ensures (ap not c.if-not-of_kind.true),
     )
 
 pub returns-then-place-ge-LOCALS : goal.returns-then-place-ge-LOCALS
@@ -26,7 +28,7 @@ unfolding outcome_of going effect types_of ◌>>=◌
 returns-then-place-ge-LOCALS c =
     rw (
       popped-top _ _ _ c.pop.ensures c.in-Top.is,
-      of-kind _ _ _ c.of_kind.ensures c.if-not-of_kind.false,
+      of-kind _ _ _ c.of_kind.ensures (ap not c.if-not-of_kind.false),
       ← c.wide8-place.ensures.0,
       local-past _ _ c.if-place-ge-LOCALS.true,
     )
@@ -37,7 +39,7 @@ returns c =
     rw (
       popped-top _ _ _ c.pop.ensures
           c.in-Top.is,
-      of-kind _ _ _ c.of_kind.ensures c.if-not-of_kind.false,
+      of-kind _ _ _ c.of_kind.ensures (ap not c.if-not-of_kind.false),
       ← c.wide8-place.ensures.0,
       local-at _ _ c.if-place-ge-LOCALS.false,
       c.stored.ensures,

@@ -18,10 +18,10 @@ unfolding posting post_notes
 returns-then-types-wide8 c = rw (c.unmet-then-types-wide8.ensures.0, c.unmet-then-types-wide8.ensures.1, map_other c.args.types c.args.maps.now c.args.place (λ z. c.if-types-wide8.true (z ∙ sym c.map_depth-depth.ensures ∙ sym c.wide8.ensures.0))) refl
 
 pub returns-then-not-locals : goal.returns-then-not-locals
-returns-then-not-locals c = then-stop _ _ _ _ _ c.meet_part-locals.ensures _ _ (map-parts _ _ _ (sym c.is_fitting.ensures ∙ c.if-not-is_fitting.false) (c.if-types-wide8.false ∙ c.wide8.ensures.0 ∙ c.map_depth-depth.ensures) _ c.map_depth-depth.ensures) c.if-not-locals.true
+returns-then-not-locals c = then-stop _ _ _ _ _ c.meet_part-locals.ensures _ _ (map-parts _ _ _ (sym c.is_fitting.ensures ∙ c.if-not-is_fitting.false) (c.if-types-wide8.false ∙ c.wide8.ensures.0 ∙ c.map_depth-depth.ensures) _ c.map_depth-depth.ensures) (not-true _ c.if-not-locals.true)
 
 pub slice_bounds-meet_part-end-2 : goal.slice_bounds-meet_part-end-2
 slice_bounds-meet_part-end-2 c = sym ((let it : length c.args.types.operands ≡ 16 = search rules in it))
 
 pub returns : goal.returns
-returns c = rw (c.begun.ensures.0, c.begun.ensures.1) (then-on _ _ _ _ _ c.meet_part-locals.ensures _ _ (map-parts _ _ _ (sym c.is_fitting.ensures ∙ c.if-not-is_fitting.false) (c.if-types-wide8.false ∙ c.wide8.ensures.0 ∙ c.map_depth-depth.ensures) _ c.map_depth-depth.ensures) c.if-not-locals.false _ c.meet_part-operands.ensures)
+returns c = rw (c.begun.ensures.0, c.begun.ensures.1) (then-on _ _ _ _ _ c.meet_part-locals.ensures _ _ (map-parts _ _ _ (sym c.is_fitting.ensures ∙ c.if-not-is_fitting.false) (c.if-types-wide8.false ∙ c.wide8.ensures.0 ∙ c.map_depth-depth.ensures) _ c.map_depth-depth.ensures) (not-false _ c.if-not-locals.false) _ c.meet_part-operands.ensures)

@@ -5,12 +5,12 @@ use Rattle.verifier.proofs.lookups.is_conditional.Goals as goal
 
 pub returns-in-Always : goal.returns-in-Always
 unfolding goes_on
-returns-in-Always c = rw c.in-Always.is
+returns-in-Always c p = rw c.in-Always.is
 
 pub returns-in-IfZero : goal.returns-in-IfZero
 unfolding goes_on
-returns-in-IfZero c = rw c.in-IfZero.is
+returns-in-IfZero c p = rw c.in-IfZero.is
 
 pub returns-in-IfLess : goal.returns-in-IfLess
 unfolding goes_on
-returns-in-IfLess c = rw c.in-IfLess.is
+returns-in-IfLess c p = rw c.in-IfLess.is

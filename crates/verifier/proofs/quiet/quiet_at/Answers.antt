@@ -29,4 +29,4 @@ pub returns-then-find_map-ne0 : goal.returns-then-find_map-ne0
 returns-then-find_map-ne0 c = loud-turn _ _ _ refl
 
 pub returns : goal.returns
-returns c = quiet-turn _ _ _ _ c.find_map.ensures c.if-find_map-ne0.false _ _ c.target_of.ensures c.in-Nowhere.is _ c.goes_on.ensures c.if-not-goes_on.false _ _ _ _ (turned-at _ _ _ _ _ _ _ c.decode.ensures _ _ c.in-At.is _ c.effect_of.ensures _ refl) (c.Quiet-of.ensures _ ((let it : length c.args.types.operands ≡ 16 = search rules in it)) ((let it : length c.args.types.locals ≡ 8 = search rules in it)))
+returns c = quiet-turn _ _ _ _ c.find_map.ensures c.if-find_map-ne0.false _ _ c.target_of.ensures c.in-Nowhere.is _ c.goes_on.ensures c.if-not-goes_on.false _ _ _ _ (turned-at _ _ _ _ _ _ _ c.decode.ensures _ _ c.in-At.is _ c.effect_of.ensures _ refl) (c.quiet_of.ensures _ ((let it : length c.args.types.operands ≡ 16 = search rules in it)) ((let it : length c.args.types.locals ≡ 8 = search rules in it)))
