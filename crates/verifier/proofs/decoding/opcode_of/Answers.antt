@@ -2,7 +2,6 @@
 use borrow.Author.Tests.{ne_eqb}
 use Rattle.definition.specs.Instructions.{pick, opcode_of}
 use Rattle.verifier.specs.Decoding.{later_of}
-use borrow.Author.Rules.{rules}
 use Rattle.verifier.proofs.decoding.opcode_of.Goals as goal
 
 pub returns-in-1 : goal.returns-in-1

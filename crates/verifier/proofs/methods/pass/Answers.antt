@@ -8,7 +8,6 @@ use Rattle.classfile.specs.Reading.{map_of, map_numbered, map_place}
 use Rattle.verifier.specs.Answers.{Passes}
 use Rattle.verifier.proofs.LookupLaws.{map_next}
 use Rattle.verifier.proofs.PassLaws.{pass-none, pass-at, pass-inside, pass-before}
-use borrow.Author.Rules.{rules}
 use Rattle.verifier.proofs.methods.pass.Goals as goal
 
 -- the offset that is read is that of the first map left
