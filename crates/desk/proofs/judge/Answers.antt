@@ -1,11 +1,9 @@
 -- The file rules first, then a map that is lacking, then the walk.
 use mathlib.Core.Path.{sym, ap, ◌∙◌}
 use native.Mathlib.Omega.{arith}
-use borrow.Author.Tests.{not-true, not-false}
 use Rattle.verifier.specs.Stops.{place_of}
 use Rattle.desk.specs.Answers.{verdict_of}
 use Rattle.desk.proofs.SameLaws.{spot-short, said-file, said-lack}
-use borrow.Author.Rules.{rules}
 use Rattle.desk.proofs.judge.Goals as goal
 
 pub returns-then-not-reads : goal.returns-then-not-reads

@@ -3,7 +3,6 @@ use mathlib.Core.Path.{sym, ◌∙◌}
 use borrow.Author.Tests.{not-true, not-false}
 use Rattle.verifier.proofs.PostingLaws.{answer-says}
 use Rattle.desk.proofs.Laws.{number-file, number-unmapped, number-rejected, number-accepted}
-use borrow.Author.Rules.{rules}
 use Rattle.desk.proofs.tariff_check.Goals as goal
 
 pub returns-then-not-reads : goal.returns-then-not-reads
@@ -16,13 +15,13 @@ returns-then-is_class_unmapped c =
 pub returns-then-not-verified : goal.returns-then-not-verified
 returns-then-not-verified c =
     let walked = c.verify_class-verified in
-            sym
+    sym
     (number-rejected _ (sym c.reads.ensures ∙ c.if-not-reads.false) (sym c.is_class_unmapped.ensures ∙ c.if-is_class_unmapped.false)
     _ (answer-says 0 _ _ _ _ walked.ensures) (not-true _ c.if-not-verified.true))
 
 pub returns : goal.returns
 returns c =
     let walked = c.verify_class-verified in
-            sym
+    sym
     (number-accepted _ (sym c.reads.ensures ∙ c.if-not-reads.false) (sym c.is_class_unmapped.ensures ∙ c.if-is_class_unmapped.false)
     _ (answer-says 0 _ _ _ _ walked.ensures) (not-false _ c.if-not-verified.false))

@@ -1,9 +1,8 @@
 -- Three cells, one after another.
-use mathlib.Core.Path.{ap, ◌∙◌}
+use mathlib.Core.Path.{ap}
 use Rattle.definition.specs.Places as told
 use Rattle.desk.specs.Answers.{verdict_of}
 use Rattle.desk.proofs.SameLaws.{cells_told}
-use borrow.Author.Rules.{rules}
 use Rattle.desk.proofs.tariff_check_at.Goals as goal
 
 pub returns : goal.returns

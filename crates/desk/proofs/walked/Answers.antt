@@ -1,11 +1,9 @@
 -- Where the walk stops, if it does; the point is a small number.
 use mathlib.Core.Path.{sym, ap, ◌∙◌}
 use native.Mathlib.Omega.{arith}
-use borrow.Author.Tests.{not-true, not-false}
 use Rattle.verifier.specs.Stops.{place_of}
 use Rattle.desk.specs.Answers.{verdict_of}
 use Rattle.desk.proofs.SameLaws.{spot-short, said-stop, said-fine}
-use borrow.Author.Rules.{rules}
 use Rattle.desk.proofs.walked.Goals as goal
 
 pub overflow_cast-result : goal.overflow_cast-result
