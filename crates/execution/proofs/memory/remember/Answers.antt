@@ -1,0 +1,8 @@
+use Rattle.execution.specs.Memory.{index_of, tag_of, recalled-not, recalled-is}
+use mathlib.Core.Path.{◌≡◌, refl, sym, ap, ◌∙◌}
+use native.Mathlib.Omega.{arith}
+use borrow.Author.Rules.{rules}
+use Rattle.execution.proofs.memory.remember.Goals as goal
+
+pub returns : goal.returns
+returns c = (rw (c.put32.ensures, c.index_of-i.ensures, c.tag_of.ensures), rw (c.put32-2.ensures, c.index_of-i.ensures))

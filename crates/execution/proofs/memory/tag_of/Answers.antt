@@ -1,0 +1,9 @@
+use Rattle.execution.specs.Memory.{index_of, tag_of, recalled-not, recalled-is}
+use mathlib.Core.Path.{◌≡◌, refl, sym, ap, ◌∙◌}
+use native.Mathlib.Omega.{arith}
+use borrow.Author.Rules.{rules}
+use Rattle.execution.proofs.memory.tag_of.Goals as goal
+
+pub returns : goal.returns
+unfolding tag_of
+returns c = rw (c.from16.ensures.0, c.from16-2.ensures.0, c.from16-3.ensures.0)
