@@ -1,11 +1,10 @@
 -- The row of the top frame is a part of the frames; it is walked, and every instruction of the walk is a step.
 use native.Mathlib.Omega.{arith}
-use mathlib.Core.Path.{◌≡◌, refl, sym, ap, ◌∙◌}
+use mathlib.Core.Path.{sym, ap, ◌∙◌}
 use lib.ListN.{length}
 use Rattle.execution.specs.Ahead.{none_ahead}
 use Rattle.execution.specs.Opcodes.{numbers-lent, numbers-length}
 use Rattle.execution.specs.Walks.{row_fits, part-size, part-few, ahead-part}
-use borrow.Author.Rules.{rules}
 use Rattle.execution.proofs.ahead.go_ahead.Goals as goal
 
 pub returns-then-most-eq0 : goal.returns-then-most-eq0

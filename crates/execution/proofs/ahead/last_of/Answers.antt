@@ -1,5 +1,4 @@
 use Rattle.execution.specs.Ahead.{last_none, last_some}
-use borrow.Author.Rules.{rules}
 use Rattle.execution.proofs.ahead.last_of.Goals as goal
 
 pub returns-then-more-eq0 : goal.returns-then-more-eq0

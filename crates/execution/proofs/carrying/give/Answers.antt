@@ -1,7 +1,6 @@
 -- The caller has the value as its new top operand, and the task has m frames.
 use Prim.Native.Nat.{◌<◌}
 use native.Mathlib.Omega.{arith}
-use borrow.Author.Rules.{rules}
 use Rattle.execution.proofs.carrying.give.Goals as goal
 
 pub overflow_sub-m : goal.overflow_sub-m

@@ -1,5 +1,4 @@
 -- The new object's row is written, its number pushed, and its row taken.
-use borrow.Author.Rules.{rules}
 use Rattle.definition.specs.Instructions.{pick}
 use Rattle.definition.specs.Tables.{value_of}
 use Rattle.execution.proofs.carrying.make.Goals as goal

@@ -2,7 +2,6 @@
 use native.Mathlib.Omega.{arith}
 use mathlib.Core.Path.{◌∙◌}
 use Rattle.store.specs.Numbering.{numbered-few}
-use borrow.Author.Rules.{rules}
 use Rattle.execution.proofs.carrying.number_ties.Goals as goal
 
 pub returns : goal.returns

@@ -8,7 +8,6 @@ use lib.Seq.{set-get_or}
 use Rattle.definition.specs.Lists.{write_rows}
 use Rattle.definition.specs.Constraints.{Tie}
 use Rattle.definition.specs.Tables.{put_tie}
-use borrow.Author.Rules.{rules}
 use Rattle.execution.proofs.carrying.post_ties.Goals as goal
 
 none_of : (us : List Tie) → length us ≡ 0 → us ≡ []

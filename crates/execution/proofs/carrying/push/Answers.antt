@@ -1,5 +1,4 @@
 -- The value is the operand above the d that stay.
-use borrow.Author.Rules.{rules}
 use Rattle.execution.proofs.carrying.push.Goals as goal
 
 pub returns : goal.returns

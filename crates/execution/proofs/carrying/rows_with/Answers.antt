@@ -1,5 +1,4 @@
 -- A row below the count is one of those counted; else it is the next.
-use borrow.Author.Rules.{rules}
 use borrow.Author.Tests.{lt-ltb, le-ltb}
 use Rattle.definition.specs.Instructions.{pick}
 use Rattle.layout.specs.OwnedRows.{rows_with}

@@ -1,5 +1,4 @@
 -- The local is set in the frame that goes on.
-use borrow.Author.Rules.{rules}
 use Rattle.execution.proofs.carrying.store.Goals as goal
 
 pub returns : goal.returns

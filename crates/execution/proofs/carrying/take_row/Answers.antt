@@ -1,6 +1,5 @@
 -- The object count is written, and then the row's owner: 1 and the task.
 use native.Mathlib.Numerals.{add-one}
-use borrow.Author.Rules.{rules}
 use Rattle.execution.proofs.carrying.take_row.Goals as goal
 
 pub returns : goal.returns

@@ -1,6 +1,5 @@
 -- The types that were read are those of the class's slots, so the row begins as a new object's.
 use native.Mathlib.Omega.{arith}
-use borrow.Author.Rules.{rules}
 use Rattle.execution.specs.Carried.{written_new}
 use Rattle.execution.proofs.carrying.write_new.Goals as goal
 

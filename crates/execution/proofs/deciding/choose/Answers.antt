@@ -1,8 +1,6 @@
 -- What can't be read is refused 14; else the instruction's decision is the machine's step, and the next point fits 32 bits.
 use native.Mathlib.Omega.{arith}
-use borrow.Author.Rules.{rules}
 use Rattle.execution.specs.Steps.{loader-there, usable, row_low, unread, read_at, chosen-unreadable, next_fits, chosen}
-use Rattle.definition.specs.Requests.{at}
 use Rattle.definition.specs.Tables.{tables}
 use Rattle.execution.proofs.deciding.choose.Goals as goal
 

@@ -2,7 +2,6 @@
 use borrow.Author.Tests.{lt-ltb, le-ltb}
 use Rattle.execution.specs.Entering.{argument_or}
 use Rattle.definition.specs.Instructions.{pick}
-use borrow.Author.Rules.{rules}
 use Rattle.execution.proofs.entering.argument.Goals as goal
 
 pub returns-then-n-i : goal.returns-then-n-i

@@ -1,7 +1,6 @@
 -- The arguments are read before anything is written. The frame in row m + 1 is written whole, the caller's point and operand count with it, and the task has
 -- one frame more.
 use native.Mathlib.Omega.{arith}
-use borrow.Author.Rules.{rules}
 use Rattle.execution.proofs.entering.enter.Goals as goal
 
 pub overflow_add-d : goal.overflow_add-d

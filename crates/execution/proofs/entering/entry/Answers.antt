@@ -1,5 +1,4 @@
 -- Each of the four is an argument, or empty.
-use borrow.Author.Rules.{rules}
 use Rattle.execution.specs.Entering.{entered}
 use Rattle.execution.proofs.entering.entry.Goals as goal
 

@@ -1,7 +1,4 @@
-use Rattle.execution.specs.Memory.{index_of, tag_of, recalled-not, recalled-is}
-use mathlib.Core.Path.{◌≡◌, refl, sym, ap, ◌∙◌}
-use native.Mathlib.Omega.{arith}
-use borrow.Author.Rules.{rules}
+use Rattle.execution.specs.Memory.{recalled-not, recalled-is}
 use Rattle.execution.proofs.memory.recall.Goals as goal
 
 pub returns-then-at32-tag_of : goal.returns-then-at32-tag_of

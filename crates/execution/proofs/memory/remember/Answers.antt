@@ -1,7 +1,3 @@
-use Rattle.execution.specs.Memory.{index_of, tag_of, recalled-not, recalled-is}
-use mathlib.Core.Path.{◌≡◌, refl, sym, ap, ◌∙◌}
-use native.Mathlib.Omega.{arith}
-use borrow.Author.Rules.{rules}
 use Rattle.execution.proofs.memory.remember.Goals as goal
 
 pub returns : goal.returns

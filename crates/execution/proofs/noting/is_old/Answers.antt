@@ -1,10 +1,6 @@
 use borrow.Author.Tests.{eqb-true}
-use Rattle.execution.specs.Facts.{fact_of, reads_at, old-same, old-found, slot-made, noted}
-use mathlib.Core.Bool.{true≢false, false≢true}
-use borrow.Author.Tests.{not-true, not-false}
-use mathlib.Core.Path.{◌≡◌, refl, sym, ap, ◌∙◌}
-use native.Mathlib.Omega.{arith}
-use borrow.Author.Rules.{rules}
+use Rattle.execution.specs.Facts.{old-same, old-found}
+use mathlib.Core.Bool.{false≢true}
 use Rattle.execution.proofs.noting.is_old.Goals as goal
 
 pub returns-then-one-two : goal.returns-then-one-two

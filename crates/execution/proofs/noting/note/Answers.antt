@@ -1,9 +1,4 @@
-use Rattle.execution.specs.Facts.{fact_of, reads_at, old-same, old-found, slot-made, noted}
-use mathlib.Core.Bool.{true≢false, false≢true}
-use borrow.Author.Tests.{not-true, not-false}
-use mathlib.Core.Path.{◌≡◌, refl, sym, ap, ◌∙◌}
-use native.Mathlib.Omega.{arith}
-use borrow.Author.Rules.{rules}
+use Rattle.execution.specs.Facts.{noted}
 use Rattle.execution.proofs.noting.note.Goals as goal
 
 pub remember-requires : goal.remember-requires

@@ -1,8 +1,5 @@
-use mathlib.Core.Bool.{true≢false, false≢true}
-use borrow.Author.Tests.{not-true, not-false}
-use mathlib.Core.Path.{◌≡◌, refl, sym, ap, ◌∙◌}
-use native.Mathlib.Omega.{arith}
-use borrow.Author.Rules.{rules}
+use mathlib.Core.Bool.{true≢false}
+use mathlib.Core.Path.{sym, ◌∙◌}
 use Rattle.execution.proofs.noting.place_at_hand.Goals as goal
 
 pub returns-then-n-eq0 : goal.returns-then-n-eq0

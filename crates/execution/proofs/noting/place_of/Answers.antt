@@ -1,10 +1,7 @@
 use Rattle.execution.specs.Steps.{read_at}
-use Rattle.execution.specs.Facts.{fact_of, reads_at, old-same, old-found, slot-made, noted}
-use mathlib.Core.Bool.{true≢false, false≢true}
-use borrow.Author.Tests.{not-true, not-false}
-use mathlib.Core.Path.{◌≡◌, refl, sym, ap, ◌∙◌}
-use native.Mathlib.Omega.{arith}
-use borrow.Author.Rules.{rules}
+use Rattle.execution.specs.Facts.{fact_of, reads_at}
+use mathlib.Core.Bool.{true≢false}
+use mathlib.Core.Path.{sym, ◌∙◌}
 use Rattle.execution.proofs.noting.place_of.Goals as goal
 
 pub returns-then-c-ge64 : goal.returns-then-c-ge64

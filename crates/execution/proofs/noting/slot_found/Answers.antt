@@ -1,11 +1,8 @@
 use Rattle.resolution.specs.Quick.{found_at}
 use Rattle.access.specs.Members.{cached}
-use Rattle.execution.specs.Facts.{fact_of, reads_at, old-same, old-found, slot-made, noted}
-use mathlib.Core.Bool.{true≢false, false≢true}
-use borrow.Author.Tests.{not-true, not-false}
-use mathlib.Core.Path.{◌≡◌, refl, sym, ap, ◌∙◌}
+use Rattle.execution.specs.Facts.{slot-made}
+use mathlib.Core.Path.{refl, sym, ◌∙◌}
 use native.Mathlib.Omega.{arith}
-use borrow.Author.Rules.{rules}
 use Rattle.execution.proofs.noting.slot_found.Goals as goal
 
 pub returns-in_default : goal.returns-in_default

@@ -1,9 +1,5 @@
-use Rattle.execution.specs.Reaches.{Known, Does, stayed, plainly, did-get, did-put, unwritten}
-use mathlib.Core.Bool.{true≢false, false≢true}
-use borrow.Author.Tests.{not-true, not-false}
-use mathlib.Core.Path.{◌≡◌, refl, sym, ap, ◌∙◌}
+use Rattle.execution.specs.Reaches.{stayed, did-get}
 use native.Mathlib.Omega.{arith}
-use borrow.Author.Rules.{rules}
 use Rattle.execution.proofs.reaching.getfield.Goals as goal
 
 pub returns-then-code-wide32-le6 : goal.returns-then-code-wide32-le6

@@ -1,9 +1,7 @@
-use Rattle.execution.specs.Reaches.{Known, Does, stayed, plainly, did-get, did-put, unwritten}
-use mathlib.Core.Bool.{true≢false, false≢true}
+use Rattle.execution.specs.Reaches.{stayed, did-put, unwritten}
 use borrow.Author.Tests.{not-true, not-false}
-use mathlib.Core.Path.{◌≡◌, refl, sym, ap, ◌∙◌}
+use mathlib.Core.Path.{sym, ◌∙◌}
 use native.Mathlib.Omega.{arith}
-use borrow.Author.Rules.{rules}
 use Rattle.execution.proofs.reaching.putfield.Goals as goal
 
 pub returns-then-code-at-le6 : goal.returns-then-code-at-le6

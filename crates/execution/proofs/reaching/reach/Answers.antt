@@ -1,11 +1,7 @@
 use Rattle.execution.specs.Opcodes.{opcode_numbered}
 use Rattle.definition.specs.Instructions.{pick}
-use Rattle.execution.specs.Reaches.{Known, Does, stayed, plainly, did-get, did-put, unwritten}
-use mathlib.Core.Bool.{true≢false, false≢true}
-use borrow.Author.Tests.{not-true, not-false}
-use mathlib.Core.Path.{◌≡◌, refl, sym, ap, ◌∙◌}
-use native.Mathlib.Omega.{arith}
-use borrow.Author.Rules.{rules}
+use Rattle.execution.specs.Reaches.{plainly}
+use mathlib.Core.Path.{ap, ◌∙◌}
 use Rattle.execution.proofs.reaching.reach.Goals as goal
 
 pub returns-in-16 : goal.returns-in-16

@@ -1,9 +1,5 @@
-use Rattle.execution.specs.Reaches.{Known, Does, stayed, plainly, did-get, did-put, unwritten}
-use mathlib.Core.Bool.{true≢false, false≢true}
-use borrow.Author.Tests.{not-true, not-false}
-use mathlib.Core.Path.{◌≡◌, refl, sym, ap, ◌∙◌}
+use mathlib.Core.Path.{sym, ◌∙◌}
 use native.Mathlib.Omega.{arith}
-use borrow.Author.Rules.{rules}
 use Rattle.execution.proofs.reaching.slot_of.Goals as goal
 
 pub returns-then-x-ne-KIND_OBJECT : goal.returns-then-x-ne-KIND_OBJECT

@@ -1,12 +1,8 @@
 -- The walk: k instructions are done, the row stands at point p with d operands, and the objects keep their length.
 use native.Mathlib.Omega.{arith}
-use mathlib.Core.Path.{◌≡◌, refl, sym, ap, ◌∙◌}
-use Prim.Native.Nat.{ℕ, ◌-◌, ◌≤◌}
-use lib.ListN.{length}
+use mathlib.Core.Path.{refl, sym, ◌∙◌}
 use borrow.Author.Tests.{not-true, not-false}
-use Rattle.execution.specs.Opcodes.{Numbers}
-use Rattle.execution.specs.Plain.{At}
-use Rattle.execution.specs.Reaches.{Walked, here, walk_more, walk-stops}
+use Rattle.execution.specs.Reaches.{here, walk_more, walk-stops}
 use borrow.Author.Rules.{rules}
 use Rattle.execution.proofs.reaching.walk.Goals as goal
 

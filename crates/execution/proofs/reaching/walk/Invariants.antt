@@ -1,12 +1,9 @@
-use native.Mathlib.Omega.{arith}
-use mathlib.Core.Path.{◌≡◌, refl, sym, ap, ◌∙◌}
+use mathlib.Core.Path.{◌≡◌}
 use Prim.Native.Nat.{ℕ, ◌-◌, ◌≤◌}
 use lib.ListN.{length}
-use borrow.Author.Tests.{not-true, not-false}
 use Rattle.execution.specs.Opcodes.{Numbers}
 use Rattle.execution.specs.Plain.{At}
-use Rattle.execution.specs.Reaches.{Walked, here, walk_more, walk-stops}
-use borrow.Author.Rules.{rules}
+use Rattle.execution.specs.Reaches.{Walked}
 use Rattle.execution.proofs.reaching.walk.Given as goal
 
 abbrev pub invariant-loop-k : goal.invariant-loop-k

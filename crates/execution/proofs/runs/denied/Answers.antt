@@ -1,7 +1,6 @@
 -- 'Broken' comes first, then n's limits.
 use mathlib.Core.Path.{sym, ◌∙◌}
 use Rattle.execution.specs.Runs.{ruled-broken, ruled-none, ruled-many, ruled-runs}
-use borrow.Author.Rules.{rules}
 use Rattle.execution.proofs.runs.denied.Goals as goal
 
 pub returns-then-is_broken : goal.returns-then-is_broken

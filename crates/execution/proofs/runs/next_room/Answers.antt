@@ -1,6 +1,5 @@
 -- The report made one object more just if it was its turn and the lowest number unused moved.
 use native.Mathlib.Omega.{arith}
-use borrow.Author.Rules.{rules}
 use borrow.Author.Tests.{eq-eqb, ne_eqb}
 use Rattle.definition.specs.Instructions.{pick}
 use Rattle.execution.specs.Runs.{made_next}

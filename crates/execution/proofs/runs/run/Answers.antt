@@ -1,9 +1,7 @@
 -- A run that is refused changes nothing; any other takes its steps.
 use native.Mathlib.Omega.{arith}
-use mathlib.Core.Path.{◌≡◌, refl, sym, ap, ◌∙◌}
 use Rattle.execution.specs.Runs.{run-allowed}
 use Rattle.instructions.specs.Operands.{positive}
-use borrow.Author.Rules.{rules}
 use Rattle.execution.proofs.runs.run.Goals as goal
 
 pub returns-then-word-ne0 : goal.returns-then-word-ne0

@@ -1,19 +1,10 @@
 -- The run of steps: the loop has taken k of them, what is left of the run is the whole run, the store is not broken, what a new
 -- object asks for is at hand, and what is remembered is right. After a step come those that are done at once.
 use native.Mathlib.Omega.{arith}
-use mathlib.Core.Path.{◌≡◌, refl, sym, ap, ◌∙◌}
-use Prim.Native.Nat.{◌-◌, ◌≤◌}
-use mathlib.Core.Bool.{false}
-use lib.ListN.{length}
-use borrow.Author.Tests.{not-true, not-false}
-use Rattle.execution.specs.Runs.{RoomIn, run-stops, run_on, still-whole, next-room, room_for, room-few, run_ends, run-begins}
+use mathlib.Core.Path.{refl, sym, ◌∙◌}
+use Rattle.execution.specs.Runs.{run-stops, run_on, still-whole, next-room, room_for, room-few, run_ends, run-begins}
 use Rattle.execution.specs.Ahead.{sound, go-on}
-use Rattle.execution.specs.Facts.{Minds, minds-step}
-use Rattle.definition.specs.declared.Answer.TheVariants.{Idle}
-use Rattle.definition.specs.Broken.{broken}
-use Rattle.definition.specs.Calls.{step_tables, run_from}
-use Rattle.definition.specs.Tables.{tables}
-use borrow.Author.Rules.{rules}
+use Rattle.execution.specs.Facts.{minds-step}
 use Rattle.execution.proofs.runs.steps.Goals as goal
 
 pub loop-k-init : goal.loop-k-init

@@ -1,17 +1,13 @@
-use native.Mathlib.Omega.{arith}
-use mathlib.Core.Path.{◌≡◌, refl, sym, ap, ◌∙◌}
+use mathlib.Core.Path.{◌≡◌}
 use Prim.Native.Nat.{◌-◌, ◌≤◌}
 use mathlib.Core.Bool.{false}
 use lib.ListN.{length}
-use borrow.Author.Tests.{not-true, not-false}
-use Rattle.execution.specs.Runs.{RoomIn, run-stops, run_on, still-whole, next-room, room_for, room-few, run_ends, run-begins}
-use Rattle.execution.specs.Ahead.{sound, go-on}
-use Rattle.execution.specs.Facts.{Minds, minds-step}
+use Rattle.execution.specs.Runs.{RoomIn}
+use Rattle.execution.specs.Facts.{Minds}
 use Rattle.definition.specs.declared.Answer.TheVariants.{Idle}
 use Rattle.definition.specs.Broken.{broken}
 use Rattle.definition.specs.Calls.{step_tables, run_from}
 use Rattle.definition.specs.Tables.{tables}
-use borrow.Author.Rules.{rules}
 use Rattle.execution.proofs.runs.steps.Given as goal
 
 abbrev pub invariant-loop-k : goal.invariant-loop-k

@@ -1,13 +1,11 @@
 -- Nobody has a turn: the run is idle. Else the steps are taken, with nothing remembered at first.
-use native.Mathlib.Omega.{arith}
-use mathlib.Core.Path.{◌≡◌, refl, sym, ap, ◌∙◌}
+use mathlib.Core.Path.{refl, ◌∙◌}
 use Rattle.definition.specs.Lists.{rows}
 use Rattle.definition.specs.Instructions.{pick, opcode_of}
 use Rattle.execution.specs.Opcodes.{numbers, number_at, version_at}
 use Rattle.execution.specs.Turns.{turn-idle}
 use Rattle.execution.specs.Runs.{run-stops, run-begins}
 use Rattle.execution.specs.Facts.{none-noted}
-use borrow.Author.Rules.{rules}
 use Rattle.execution.proofs.runs.steps_allowed.Goals as goal
 
 pub returns-then-frame_count-eq0 : goal.returns-then-frame_count-eq0

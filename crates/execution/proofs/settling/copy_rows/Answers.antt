@@ -1,9 +1,7 @@
 -- The first i cells are copied.
-use Prim.Native.Nat.{◌-◌, ◌≤◌}
-use mathlib.Core.Path.{◌≡◌, refl, sym, ◌∙◌}
+use mathlib.Core.Path.{refl, sym, ◌∙◌}
 use native.Mathlib.Omega.{arith}
-use borrow.Author.Rules.{rules}
-use lib.ListN.{length, take, length-set}
+use lib.ListN.{length-set}
 use Rattle.execution.proofs.Laws.{copied_more, copied_all}
 use Rattle.execution.proofs.settling.copy_rows.Goals as goal
 

@@ -3,7 +3,6 @@ use mathlib.Core.Path.{refl, sym, ◌∙◌}
 use native.Mathlib.Omega.{arith}
 use Rattle.definition.specs.Constraints.{agrees}
 use Rattle.unbroken.specs.Steps.{news-between}
-use borrow.Author.Rules.{rules}
 use Rattle.posting.specs.Postings.{to_post, ties-same}
 use Rattle.execution.specs.Decisions.{settle-no-room, settle-none, settle-full, settle-clash, settle-agrees}
 use Rattle.execution.proofs.settling.settle.Goals as goal

@@ -1,8 +1,6 @@
 -- A refusal posts nothing; what was found is settled.
 use mathlib.Core.Path.{refl}
 use native.Mathlib.Omega.{arith}
-use borrow.Author.Rules.{rules}
-use Rattle.definition.specs.Requests.{at}
 use Rattle.execution.proofs.settling.settle_access.Goals as goal
 
 pub overflow_cast-one : goal.overflow_cast-one

@@ -2,7 +2,6 @@
 use Rattle.definition.specs.Instructions.{pick}
 use Rattle.definition.specs.Lists.{filled}
 use Rattle.definition.specs.Tables.{value_of}
-use borrow.Author.Rules.{rules}
 use Rattle.execution.proofs.starting.begin.Goals as goal
 
 pub returns : goal.returns

@@ -1,7 +1,6 @@
 -- 'Broken' comes first, then what is decided on the classes and the cache.
 use mathlib.Core.Path.{sym, ◌∙◌}
 use Rattle.execution.specs.Starts.{start-broken, opens}
-use borrow.Author.Rules.{rules}
 use Rattle.execution.proofs.starting.decide_start.Goals as goal
 
 pub returns-then-is_broken : goal.returns-then-is_broken

@@ -2,7 +2,6 @@
 use native.Mathlib.Omega.{arith}
 use mathlib.Core.Path.{refl}
 use Rattle.execution.specs.Starts.{begin-ready, start_first}
-use borrow.Author.Rules.{rules}
 use Rattle.execution.proofs.starting.start.Goals as goal
 
 pub overflow_cast-task : goal.overflow_cast-task

@@ -1,7 +1,5 @@
 -- Another answer leaves the counts.
 use mathlib.Core.Path.{sym, ◌∙◌}
-use borrow.Author.Rules.{rules}
-use borrow.Author.Tests.{not-false, not-true}
 use Rattle.execution.specs.Carried.{closed-not, closed_on}
 use Rattle.execution.proofs.turns.close.Goals as goal
 

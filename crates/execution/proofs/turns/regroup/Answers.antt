@@ -1,6 +1,5 @@
 -- By how many ties were posted.
 use mathlib.Core.Path.{sym, ◌∙◌}
-use borrow.Author.Rules.{rules}
 use Rattle.execution.specs.Turns.{regrouped-not, regrouped-on}
 use Rattle.execution.proofs.turns.regroup.Goals as goal
 

@@ -1,6 +1,5 @@
 -- The quote has no share; on the report's turn its objects are counted.
 use mathlib.Core.Path.{refl, sym, ◌∙◌}
-use borrow.Author.Rules.{rules}
 use Rattle.execution.proofs.turns.room_for_turn.Goals as goal
 
 pub returns-then-turn-eq0 : goal.returns-then-turn-eq0

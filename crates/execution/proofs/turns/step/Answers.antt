@@ -1,6 +1,5 @@
 -- One test for 'broken', then the step of a store that is not.
 use mathlib.Core.Path.{sym, ◌∙◌}
-use borrow.Author.Rules.{rules}
 use Rattle.execution.specs.Turns.{step-broken}
 use Rattle.definition.specs.Tables.{tables}
 use Rattle.execution.proofs.turns.step.Goals as goal

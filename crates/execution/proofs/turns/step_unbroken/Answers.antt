@@ -8,7 +8,6 @@ use Rattle.definition.specs.Tables.{tables}
 use Rattle.resolution.specs.Quick.{loader-quick}
 use Rattle.execution.specs.Steps.{usable}
 use Rattle.execution.specs.Turns.{turn-idle, turn-count, top-carried}
-use borrow.Author.Rules.{rules}
 use Rattle.execution.proofs.turns.step_unbroken.Goals as goal
 
 pub returns-then-n-eq0 : goal.returns-then-n-eq0

@@ -1,7 +1,6 @@
 use Rattle.definition.specs.declared.Instruction.TheVariants.{AconstNull}
 use Rattle.execution.specs.Plain.{stepping, decode-null}
 use native.Mathlib.Omega.{arith}
-use borrow.Author.Rules.{rules}
 use Rattle.execution.proofs.walking.aconst_null.Goals as goal
 
 pub returns : goal.returns

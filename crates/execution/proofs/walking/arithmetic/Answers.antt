@@ -1,7 +1,6 @@
 use Rattle.definition.specs.declared.Instruction.TheVariants.{Arithmetic}
 use Rattle.execution.specs.Plain.{stepping, decode-arithmetic}
 use native.Mathlib.Omega.{arith}
-use borrow.Author.Rules.{rules}
 use Rattle.execution.proofs.walking.arithmetic.Goals as goal
 
 pub returns : goal.returns

@@ -1,7 +1,6 @@
 use Rattle.definition.specs.declared.Instruction.TheVariants.{Branch}
 use Rattle.execution.specs.Plain.{stayed, stepping, decode-branch}
 use native.Mathlib.Omega.{arith}
-use borrow.Author.Rules.{rules}
 use Rattle.execution.proofs.walking.branch.Goals as goal
 
 pub returns-then-code-at-le2 : goal.returns-then-code-at-le2

@@ -1,7 +1,6 @@
 use Rattle.definition.specs.declared.Instruction.TheVariants.{Dup}
 use Rattle.execution.specs.Plain.{stepping, decode-dup}
 use native.Mathlib.Omega.{arith}
-use borrow.Author.Rules.{rules}
 use Rattle.execution.proofs.walking.dup.Goals as goal
 
 pub returns : goal.returns

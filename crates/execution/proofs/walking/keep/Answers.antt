@@ -1,6 +1,5 @@
 use Rattle.execution.specs.Plain.{left_so, put-so}
 use mathlib.Core.Path.{refl}
-use borrow.Author.Rules.{rules}
 use Rattle.execution.proofs.walking.keep.Goals as goal
 
 pub returns-then-d-gt-OPERAND_LIMIT : goal.returns-then-d-gt-OPERAND_LIMIT

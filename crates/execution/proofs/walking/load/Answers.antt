@@ -1,7 +1,6 @@
 use Rattle.definition.specs.declared.Instruction.TheVariants.{Load}
 use Rattle.execution.specs.Plain.{stayed, stepping, decode-load}
 use native.Mathlib.Omega.{arith}
-use borrow.Author.Rules.{rules}
 use Rattle.execution.proofs.walking.load.Goals as goal
 
 pub returns-then-code-at-le1 : goal.returns-then-code-at-le1

@@ -2,7 +2,6 @@ use Rattle.definition.specs.Instructions.{pick}
 use Rattle.execution.specs.Opcodes.{opcode_numbered}
 use Rattle.execution.specs.Plain.{stayed}
 use mathlib.Core.Path.{ap, ◌∙◌}
-use borrow.Author.Rules.{rules}
 use Rattle.execution.proofs.walking.one.Goals as goal
 
 pub returns-in-1 : goal.returns-in-1

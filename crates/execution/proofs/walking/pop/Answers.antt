@@ -1,7 +1,6 @@
 use Rattle.definition.specs.declared.Instruction.TheVariants.{Pop}
 use Rattle.execution.specs.Plain.{stepping, decode-pop}
 use native.Mathlib.Omega.{arith}
-use borrow.Author.Rules.{rules}
 use Rattle.execution.proofs.walking.pop.Goals as goal
 
 pub returns : goal.returns

@@ -1,6 +1,5 @@
 use Rattle.execution.specs.Plain.{left_so, put-set}
 use mathlib.Core.Path.{refl}
-use borrow.Author.Rules.{rules}
 use Rattle.execution.proofs.walking.put_local.Goals as goal
 
 pub returns-in_default : goal.returns-in_default

@@ -1,5 +1,4 @@
 use Rattle.execution.specs.Plain.{left_so, put-kept, put-jumped}
-use borrow.Author.Rules.{rules}
 use Rattle.execution.proofs.walking.put_point.Goals as goal
 
 pub returns-in-Keep : goal.returns-in-Keep

@@ -3,7 +3,6 @@ use Rattle.definition.specs.declared.Instruction.TheVariants.{Sipush}
 use Rattle.execution.specs.Plain.{stayed, stepping, decode-sipush}
 use mathlib.Core.Path.{ap, ◌∙◌}
 use native.Mathlib.Omega.{arith}
-use borrow.Author.Rules.{rules}
 use Rattle.execution.proofs.walking.sipush.Goals as goal
 
 pub returns-then-code-at-le2 : goal.returns-then-code-at-le2

@@ -1,7 +1,6 @@
 use Rattle.definition.specs.declared.Instruction.TheVariants.{Store}
 use Rattle.execution.specs.Plain.{stayed, stepping, decode-store}
 use native.Mathlib.Omega.{arith}
-use borrow.Author.Rules.{rules}
 use Rattle.execution.proofs.walking.store.Goals as goal
 
 pub returns-then-code-at-le1 : goal.returns-then-code-at-le1
