@@ -74,7 +74,7 @@ returns-in-Add c = let counts = c.args.counts.now in
     let n = c.in-Add.n in
     let class = c.write_class.ensures in
     (λ i. done (c.reply_of.ensures i) (tables
-    ((c.enter_class.ensures.counted ∙ (λ j. grouped_with n counts (class.bytes.1.0 j) (counts_with n (c.at16-number.ensures j + 1) (c.at16.ensures j + length file) counts))) i)
-    (class.row i) (class.bytes.0 i) (c.enter_class.ensures.written i) (class.bytes.1.0 i) (class.bytes.1.1 i)
+    ((c.enter_class.ensures.counted ∙ (λ j. grouped_with n counts (class.tied j) (counts_with n (c.at16-number.ensures j + 1) (c.at16.ensures j + length file) counts))) i)
+    (class.row i) (class.bytes i) (c.enter_class.ensures.written i) (class.tied i) (class.noted i)
     c.args.objects.now c.args.frames.now))
     ∙ ((planned-new _ c.in-Add.is (c.decide_class-plan.ensures c.args.loader c.args.file.now 512 _ _ _ _ c.admit-admitted.ensures)).whole ∙ offered-whole (load_define c.args.loader c.args.file.now) (tables c.args.counts.now c.args.classes.now c.args.kept.now c.args.cache.now c.args.ties.now c.args.subtypes.now c.args.objects.now c.args.frames.now))
