@@ -3,7 +3,6 @@ use mathlib.Core.Path.{refl}
 use Rattle.classfile.specs.Reading.{quick_file}
 use Rattle.loading.specs.Stages.{above_of, Decided}
 use Rattle.loading.proofs.Defined.{super-cached, super-words, placed-refused, placed_below, decided-same}
-use borrow.Author.Rules.{rules}
 use Rattle.loading.proofs.admitting.admit_class.Goals as goal
 
 pub admit_constraints-requires : goal.admit_constraints-requires

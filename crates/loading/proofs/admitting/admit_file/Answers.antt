@@ -16,7 +16,6 @@ use Rattle.verifier.proofs.PostingLaws.{rows-say}
 use Rattle.entries.proofs.Laws.{copied}
 use Rattle.loading.specs.Stages.{Decided}
 use Rattle.loading.proofs.Defined.{no-file, unmapped-there, unverified, verified-as, after-as, decided-same}
-use borrow.Author.Rules.{rules}
 use Rattle.loading.proofs.admitting.admit_file.Goals as goal
 use Rattle.loading.proofs.admitting.admit_file.Goals.{After-verify_class-verified, Else-not-reads}
 

@@ -4,7 +4,6 @@ use native.Mathlib.Omega.{arith}
 use lib.ListN.{length, set}
 use Rattle.definition.specs.Lists.{write_rows}
 use Rattle.definition.specs.Tables.{put_three}
-use borrow.Author.Rules.{rules}
 use Rattle.loading.proofs.carrying.write_class.Goals as goal
 
 pub overflow_cast-file : goal.overflow_cast-file

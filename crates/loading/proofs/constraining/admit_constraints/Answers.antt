@@ -9,7 +9,6 @@ use Rattle.definition.specs.Requests.{at}
 use Rattle.classfile.specs.Reading.{super_name, quick_file}
 use Rattle.loading.specs.Stages.{Decided}
 use Rattle.loading.proofs.Constrained.{posted-full, TiesMade, ties-made, posted-roomless, posted-new}
-use borrow.Author.Rules.{rules}
 use Rattle.loading.proofs.constraining.admit_constraints.Goals as goal
 use Rattle.loading.proofs.constraining.admit_constraints.Goals.{After-post_methods-tied}
 
