@@ -1,8 +1,6 @@
 -- By the loader and the room, then by what the cache has of the superclass and of the class.
-use borrow.Author.Tests.{not-true, not-false}
 use native.Mathlib.Omega.{arith}
 use Rattle.searching.proofs.Asked.{no-loader, no-room, no-super, its-name}
-use borrow.Author.Rules.{rules}
 use Rattle.searching.proofs.asking.could_define.Goals as goal
 
 pub returns-then-loader-ge-LOADER_LIMIT : goal.returns-then-loader-ge-LOADER_LIMIT

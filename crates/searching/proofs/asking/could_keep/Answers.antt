@@ -1,7 +1,6 @@
 -- By the file's length, then by what is kept.
 use native.Mathlib.Omega.{arith}
 use Rattle.searching.proofs.Asked.{too_long, by-room}
-use borrow.Author.Rules.{rules}
 use Rattle.searching.proofs.asking.could_keep.Goals as goal
 
 pub returns-then-file-gt-FILE_LIMIT : goal.returns-then-file-gt-FILE_LIMIT

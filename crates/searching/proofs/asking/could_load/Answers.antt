@@ -2,7 +2,6 @@
 use mathlib.Core.Path.{sym, ◌∙◌}
 use Rattle.searching.specs.Could.{could_at}
 use Rattle.searching.proofs.Asked.{could-file, could-name}
-use borrow.Author.Rules.{rules}
 use Rattle.searching.proofs.asking.could_load.Goals as goal
 
 pub returns-then-at32-eq1 : goal.returns-then-at32-eq1

@@ -1,6 +1,5 @@
 -- By what the cache has.
 use Rattle.searching.proofs.Asked.{cached-yes, cached-no}
-use borrow.Author.Rules.{rules}
 use Rattle.searching.proofs.asking.is_cached.Goals as goal
 
 pub returns-in-At : goal.returns-in-At

@@ -2,8 +2,7 @@
 use Rattle.classfile.specs.Searches.{part-there, part-past}
 use Prim.Native.Nat.{ℕ, ◌+◌, ◌-◌}
 use native.Mathlib.Omega.{arith}
-use mathlib.Core.Path.{◌≡◌, refl, sym, ap, ◌∙◌}
-use borrow.Author.Rules.{rules}
+use mathlib.Core.Path.{◌≡◌, sym}
 use Rattle.searching.proofs.offers.file_of.Goals as goal
 
 size : (a b : ℕ) → a + b - a ≡ b

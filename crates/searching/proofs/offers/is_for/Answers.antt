@@ -1,9 +1,7 @@
 -- By the loader, then by the name of the file or of the row.
 use Rattle.searching.specs.Offered.{load_at, is_for_at}
 use Rattle.searching.proofs.Reading.{for-other, for-define, for-record}
-use native.Mathlib.Omega.{arith}
-use mathlib.Core.Path.{◌≡◌, refl, sym, ap, ◌∙◌}
-use borrow.Author.Rules.{rules}
+use mathlib.Core.Path.{sym, ◌∙◌}
 use Rattle.searching.proofs.offers.is_for.Goals as goal
 
 pub returns-then-at32-loader : goal.returns-then-at32-loader

@@ -2,9 +2,7 @@
 use borrow.Author.Tests.{ne_eqb}
 use Rattle.definition.specs.Offers.{offer_at}
 use Rattle.searching.proofs.Reading.{offer-define, offer-record, offer-none}
-use native.Mathlib.Omega.{arith}
-use mathlib.Core.Path.{◌≡◌, refl, sym, ap, ◌∙◌}
-use borrow.Author.Rules.{rules}
+use mathlib.Core.Path.{sym, ◌∙◌}
 use Rattle.searching.proofs.offers.is_offer.Goals as goal
 
 pub returns-then-kind-eq-DEFINE : goal.returns-then-kind-eq-DEFINE

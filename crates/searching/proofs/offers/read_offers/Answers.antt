@@ -1,12 +1,7 @@
 -- The rows that were passed are offers.
-use borrow.Author.Tests.{not-true, not-false}
 use Rattle.searching.proofs.Reading.{read_more, read-stop, read-end, too_many, cut_off, read-rows}
-use Rattle.definition.specs.Offers.{offers_from, offers_in}
-use Rattle.definition.specs.Lists.{is_some}
-use Prim.Native.Nat.{◌-◌, ◌≤◌}
-use borrow.Author.Rules.{rules}
 use native.Mathlib.Omega.{arith}
-use mathlib.Core.Path.{◌≡◌, refl, sym, ap, ◌∙◌}
+use mathlib.Core.Path.{refl, sym, ◌∙◌}
 use Rattle.searching.proofs.offers.read_offers.Goals as goal
 
 pub returns-then-offers : goal.returns-then-offers

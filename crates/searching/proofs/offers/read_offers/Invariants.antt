@@ -1,11 +1,7 @@
-use borrow.Author.Tests.{not-true, not-false}
-use Rattle.searching.proofs.Reading.{read_more, read-stop, read-end, too_many, cut_off, read-rows}
 use Rattle.definition.specs.Offers.{offers_from, offers_in}
 use Rattle.definition.specs.Lists.{is_some}
 use Prim.Native.Nat.{◌-◌, ◌≤◌}
-use borrow.Author.Rules.{rules}
-use native.Mathlib.Omega.{arith}
-use mathlib.Core.Path.{◌≡◌, refl, sym, ap, ◌∙◌}
+use mathlib.Core.Path.{◌≡◌}
 use Rattle.searching.proofs.offers.read_offers.Given as goal
 
 abbrev pub invariant-loop-i : goal.invariant-loop-i

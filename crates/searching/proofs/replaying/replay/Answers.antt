@@ -1,13 +1,7 @@
 -- The loop: k loads are made, and those that are left lead from here to where all of them lead from the beginning.
 use native.Mathlib.Omega.{arith}
-use mathlib.Core.Path.{◌≡◌, refl, ◌∙◌}
-use Prim.Native.Nat.{◌-◌, ◌≤◌}
-use lib.ListN.{length}
-use Rattle.definition.specs.Tables.{tables}
-use Rattle.definition.specs.Calls.{perform_all}
-use Rattle.searching.specs.Replayed.{numbers_in, loads_at}
+use mathlib.Core.Path.{refl, ◌∙◌}
 use Rattle.searching.proofs.Replays.{replay-start, replay-more, replay-end}
-use borrow.Author.Rules.{rules}
 use Rattle.searching.proofs.replaying.replay.Goals as goal
 
 pub loop-k-init : goal.loop-k-init

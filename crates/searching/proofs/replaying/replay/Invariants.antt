@@ -1,12 +1,9 @@
-use native.Mathlib.Omega.{arith}
-use mathlib.Core.Path.{◌≡◌, refl, ◌∙◌}
+use mathlib.Core.Path.{◌≡◌}
 use Prim.Native.Nat.{◌-◌, ◌≤◌}
 use lib.ListN.{length}
 use Rattle.definition.specs.Tables.{tables}
 use Rattle.definition.specs.Calls.{perform_all}
 use Rattle.searching.specs.Replayed.{numbers_in, loads_at}
-use Rattle.searching.proofs.Replays.{replay-start, replay-more, replay-end}
-use borrow.Author.Rules.{rules}
 use Rattle.searching.proofs.replaying.replay.Given as goal
 
 abbrev pub invariant-loop-k : goal.invariant-loop-k

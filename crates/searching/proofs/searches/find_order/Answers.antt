@@ -1,7 +1,5 @@
 -- Where no offer is for the request, by what the box has. Else the second store is a copy of the box's, and so is what is found on it.
-use borrow.Author.Tests.{not-true}
 use Rattle.searching.proofs.Sought.{copy-whole, copy-order, unwanted}
-use borrow.Author.Rules.{rules}
 use Rattle.searching.proofs.searches.find_order.Goals as goal
 
 pub is_any_for-requires : goal.is_any_for-requires

@@ -1,7 +1,6 @@
 -- By its cases.
 use mathlib.Core.Path.{refl}
 use Rattle.searching.specs.Found.{finding_of}
-use borrow.Author.Rules.{rules}
 use Rattle.searching.proofs.searches.finding_of.Goals as goal
 
 pub returns-in-Loads : goal.returns-in-Loads

@@ -1,12 +1,9 @@
 -- The loop: the first i offers aren't for the request.
 use native.Mathlib.Omega.{arith}
-use mathlib.Core.Path.{◌≡◌, refl, sym, ◌∙◌}
+use mathlib.Core.Path.{refl, sym, ◌∙◌}
 use mathlib.Core.Bool.{false≢true}
-use Prim.Native.Nat.{◌-◌, ◌/◌, ◌≤◌}
-use lib.ListN.{length}
 use Rattle.searching.specs.Offered.{offers-few}
-use Rattle.searching.proofs.Sought.{NoneYet, none-start, none_more, none_end}
-use borrow.Author.Rules.{rules}
+use Rattle.searching.proofs.Sought.{none-start, none_more, none_end}
 use Rattle.searching.proofs.searches.is_any_for.Goals as goal
 
 pub loop-i-init : goal.loop-i-init

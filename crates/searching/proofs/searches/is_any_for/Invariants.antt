@@ -1,11 +1,7 @@
-use native.Mathlib.Omega.{arith}
-use mathlib.Core.Path.{◌≡◌, refl, sym, ◌∙◌}
-use mathlib.Core.Bool.{false≢true}
+use mathlib.Core.Path.{◌≡◌}
 use Prim.Native.Nat.{◌-◌, ◌/◌, ◌≤◌}
 use lib.ListN.{length}
-use Rattle.searching.specs.Offered.{offers-few}
-use Rattle.searching.proofs.Sought.{NoneYet, none-start, none_more, none_end}
-use borrow.Author.Rules.{rules}
+use Rattle.searching.proofs.Sought.{NoneYet}
 use Rattle.searching.proofs.searches.is_any_for.Given as goal
 
 abbrev pub invariant-loop-i : goal.invariant-loop-i

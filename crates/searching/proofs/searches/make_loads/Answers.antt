@@ -1,6 +1,5 @@
 -- The loads of the order, made on a copy of the box's.
 use Rattle.searching.proofs.Sought.{copy-loads}
-use borrow.Author.Rules.{rules}
 use Rattle.searching.proofs.searches.make_loads.Goals as goal
 
 pub returns : goal.returns

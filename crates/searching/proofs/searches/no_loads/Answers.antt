@@ -1,6 +1,5 @@
 -- By what the cache has.
 use Rattle.searching.proofs.Sought.{loads-there, loads-absent}
-use borrow.Author.Rules.{rules}
 use Rattle.searching.proofs.searches.no_loads.Goals as goal
 
 pub returns-in-At : goal.returns-in-At

@@ -1,7 +1,6 @@
 -- By its cases.
 use mathlib.Core.Path.{refl}
 use Rattle.searching.specs.Found.{order_in}
-use borrow.Author.Rules.{rules}
 use Rattle.searching.proofs.searches.order_in.Goals as goal
 
 pub returns-in-Loads : goal.returns-in-Loads

@@ -2,7 +2,6 @@
 use native.Mathlib.Omega.{arith}
 use mathlib.Core.Path.{refl, ◌∙◌}
 use Rattle.searching.proofs.Sought.{search-denied, search-made, still-shaped}
-use borrow.Author.Rules.{rules}
 use Rattle.searching.proofs.searches.search.Goals as goal
 
 pub returns-then-word-ne0 : goal.returns-then-word-ne0

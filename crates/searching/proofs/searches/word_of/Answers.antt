@@ -1,8 +1,6 @@
 -- The tests, in order.
-use mathlib.Core.Path.{◌≡◌, sym, ◌∙◌}
-use borrow.Author.Tests.{not-true, not-false}
+use mathlib.Core.Path.{sym, ◌∙◌}
 use Rattle.searching.proofs.Sought.{other-lengths, broken-box, no-loader, no_name, unread, cleared}
-use borrow.Author.Rules.{rules}
 use Rattle.searching.proofs.searches.word_of.Goals as goal
 
 pub returns-then-not-is_shaped : goal.returns-then-not-is_shaped

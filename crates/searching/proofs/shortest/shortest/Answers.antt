@@ -1,13 +1,8 @@
 -- By rising n: no order of fewer loads works, and the tables show what they showed.
-use Prim.Native.Nat.{◌+◌, ◌-◌}
-use mathlib.Core.Path.{◌≡◌, refl, ◌∙◌}
+use mathlib.Core.Path.{refl, ◌∙◌}
 use native.Mathlib.Omega.{arith}
-use lib.ListN.{length}
-use Rattle.definition.specs.Requests.{at}
-use Rattle.definition.specs.Tables.{tables}
 use Rattle.searching.specs.Offered.{offers-few}
-use Rattle.searching.proofs.Rising.{Rising, rising-start, rising-on, rising-found, rising-end}
-use borrow.Author.Rules.{rules}
+use Rattle.searching.proofs.Rising.{rising-start, rising-on, rising-found, rising-end}
 use Rattle.searching.proofs.shortest.shortest.Goals as goal
 
 pub loop-n-init : goal.loop-n-init
@@ -15,11 +10,11 @@ loop-n-init c = (rising-start _ _ _ _ _ c.requires.frames_value c.requires.files
 
 pub order_of-found-requires : goal.order_of-found-requires
 order_of-found-requires c = record {
-      frames_value = c.loop-n.invariant.0.whole;
-      files_value = c.requires.files_value;
-      used_len = refl;
-      n_bound = omega (arith, offers-few c.args.offers.now c.args.files.now c.requires.files_value, c.loop-n-test.true);
-    }
+  frames_value = c.loop-n.invariant.0.whole;
+  files_value = c.requires.files_value;
+  used_len = refl;
+  n_bound = omega (arith, offers-few c.args.offers.now c.args.files.now c.requires.files_value, c.loop-n-test.true);
+}
 
 pub overflow_cast-result : goal.overflow_cast-result
 overflow_cast-result c = omega (arith, offers-few c.args.offers.now c.args.files.now c.requires.files_value, c.loop-n-test.true)

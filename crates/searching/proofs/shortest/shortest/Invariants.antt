@@ -1,12 +1,9 @@
 use Prim.Native.Nat.{◌+◌, ◌-◌}
-use mathlib.Core.Path.{◌≡◌, refl, ◌∙◌}
-use native.Mathlib.Omega.{arith}
+use mathlib.Core.Path.{◌≡◌}
 use lib.ListN.{length}
 use Rattle.definition.specs.Requests.{at}
 use Rattle.definition.specs.Tables.{tables}
-use Rattle.searching.specs.Offered.{offers-few}
-use Rattle.searching.proofs.Rising.{Rising, rising-start, rising-on, rising-found, rising-end}
-use borrow.Author.Rules.{rules}
+use Rattle.searching.proofs.Rising.{Rising}
 use Rattle.searching.proofs.shortest.shortest.Given as goal
 
 abbrev pub invariant-loop-n : goal.invariant-loop-n

@@ -3,7 +3,6 @@ use Prim.Native.Nat.{◌<◌}
 use mathlib.Core.Path.{◌≡◌, refl, sym, ◌∙◌}
 use native.Mathlib.Omega.{arith}
 use lib.ListN.{length}
-use borrow.Author.Tests.{not-true, not-false}
 use Rattle.definition.specs.Requests.{at}
 use Rattle.definition.specs.Tables.{tables}
 use Rattle.searching.proofs.Tried.{few, marked, fits_more, one-refused, one-whole, one-done, not-worth, is-worth, is-unused, is-tried, turning-start, turns-on, turns-found, turning-end, of-all, of_none}

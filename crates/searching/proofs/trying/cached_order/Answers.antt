@@ -1,6 +1,5 @@
 -- By what the cache has.
 use Rattle.searching.proofs.Steps.{cached-there, cached-absent}
-use borrow.Author.Rules.{rules}
 use Rattle.searching.proofs.trying.cached_order.Goals as goal
 
 pub returns-in-At : goal.returns-in-At

@@ -1,7 +1,6 @@
 -- By the mark of offer i, and by whose request it is for.
-use mathlib.Core.Path.{◌≡◌, sym, ◌∙◌}
+use mathlib.Core.Path.{sym, ◌∙◌}
 use Rattle.searching.proofs.Steps.{tried-used, tried-for, tried_other}
-use borrow.Author.Rules.{rules}
 use Rattle.searching.proofs.trying.is_tried.Goals as goal
 
 pub returns-then-at8-ne0 : goal.returns-then-at8-ne0

@@ -1,7 +1,5 @@
 -- By whether it is tried, and then by its load.
-use borrow.Author.Tests.{not-true, not-false}
 use Rattle.searching.proofs.Asked.{worth-not, worth-could}
-use borrow.Author.Rules.{rules}
 use Rattle.searching.proofs.trying.is_worth.Goals as goal
 
 pub returns-then-not-is_tried : goal.returns-then-not-is_tried

@@ -1,8 +1,7 @@
 -- By the row's kind, the define or the record.
-use mathlib.Core.Path.{◌≡◌, sym, ◌∙◌}
+use mathlib.Core.Path.{sym, ◌∙◌}
 use Rattle.searching.proofs.Steps.{load-define, load-record}
 use Rattle.searching.specs.Offered.{load_at}
-use borrow.Author.Rules.{rules}
 use Rattle.searching.proofs.trying.load_one.Goals as goal
 
 pub returns-then-at32-eq1 : goal.returns-then-at32-eq1

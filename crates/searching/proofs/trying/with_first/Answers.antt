@@ -3,7 +3,6 @@ use mathlib.Core.Path.{sym, ap}
 use native.Mathlib.Omega.{arith}
 use Rattle.searching.specs.Ordering.{with_first}
 use Rattle.searching.proofs.Tried.{fits_below}
-use borrow.Author.Rules.{rules}
 use Rattle.searching.proofs.trying.with_first.Goals as goal
 
 pub overflow_cast-result : goal.overflow_cast-result
