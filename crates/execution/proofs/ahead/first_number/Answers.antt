@@ -1,3 +1,4 @@
+-- The numbers of versions 1, 2 and above begin at 0, 256 and 512.
 use native.Mathlib.Omega.{arith}
 use Rattle.execution.specs.Opcodes.{numbers-one, numbers-two, numbers_more}
 use Rattle.execution.proofs.ahead.first_number.Goals as goal

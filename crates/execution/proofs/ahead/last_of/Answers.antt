@@ -1,3 +1,4 @@
+-- With no step more the last answer stays; else the task whose turn it is ran.
 use Rattle.execution.specs.Ahead.{last_none, last_some}
 use Rattle.execution.proofs.ahead.last_of.Goals as goal
 

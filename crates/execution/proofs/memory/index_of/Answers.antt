@@ -1,3 +1,4 @@
+-- The widened numbers are the numbers.
 use Rattle.execution.specs.Memory.{index_of}
 use Rattle.execution.proofs.memory.index_of.Goals as goal
 

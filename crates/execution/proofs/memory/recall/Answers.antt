@@ -1,3 +1,4 @@
+-- Another tag means that nothing is remembered; the same tag, that the fact is.
 use Rattle.execution.specs.Memory.{recalled-not, recalled-is}
 use Rattle.execution.proofs.memory.recall.Goals as goal
 

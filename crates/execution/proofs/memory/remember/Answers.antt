@@ -1,3 +1,4 @@
+-- The tag and the fact are written at the index of the place.
 use Rattle.execution.proofs.memory.remember.Goals as goal
 
 pub returns : goal.returns

@@ -1,3 +1,4 @@
+-- The widened numbers are the numbers.
 use Rattle.execution.specs.Memory.{tag_of}
 use Rattle.execution.proofs.memory.tag_of.Goals as goal
 

@@ -1,3 +1,4 @@
+-- An instruction on a field has the slot that was found; any other has no fact.
 use native.Mathlib.Omega.{arith}
 use Rattle.execution.proofs.noting.fact_of.Goals as goal
 

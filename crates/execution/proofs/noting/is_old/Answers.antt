@@ -1,3 +1,4 @@
+-- One loader needs no tie; between two, a posting with no ties says that there is nothing new.
 use borrow.Author.Tests.{eqb-true}
 use Rattle.execution.specs.Facts.{old-same, old-found}
 use mathlib.Core.Bool.{false≢true}

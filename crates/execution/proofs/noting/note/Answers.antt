@@ -1,3 +1,4 @@
+-- A place that is known is remembered with a right fact, in tables that are long enough.
 use Rattle.execution.specs.Facts.{noted}
 use Rattle.execution.proofs.noting.note.Goals as goal
 

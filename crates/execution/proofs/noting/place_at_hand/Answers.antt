@@ -1,3 +1,4 @@
+-- With no frame there is no place.
 use mathlib.Core.Bool.{true≢false}
 use mathlib.Core.Path.{sym, ◌∙◌}
 use Rattle.execution.proofs.noting.place_at_hand.Goals as goal

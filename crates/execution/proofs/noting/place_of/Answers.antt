@@ -1,3 +1,4 @@
+-- Where nothing is known there is no fact; else the instruction that is read stands there, and the fact was found for it.
 use Rattle.execution.specs.Steps.{read_at}
 use Rattle.execution.specs.Facts.{fact_of, reads_at}
 use mathlib.Core.Bool.{true≢false}

@@ -1,3 +1,4 @@
+-- The class, the field and its slot are found as the definition finds them, the receiver is below the class, and the tie is no new one.
 use Rattle.resolution.specs.Quick.{found_at}
 use Rattle.access.specs.Members.{cached}
 use Rattle.execution.specs.Facts.{slot-made}

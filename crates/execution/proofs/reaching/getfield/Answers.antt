@@ -1,3 +1,4 @@
+-- A refusal leaves the row; else the slot is remembered for the receiver, and its value is put above the operands that stay.
 use Rattle.execution.specs.Reaches.{stayed, did-get}
 use native.Mathlib.Omega.{arith}
 use Rattle.execution.proofs.reaching.getfield.Goals as goal

@@ -1,3 +1,4 @@
+-- A refusal leaves the row and the objects; else the slot is remembered for the receiver, and the value is written there.
 use Rattle.execution.specs.Reaches.{stayed, did-put, unwritten}
 use borrow.Author.Tests.{not-true, not-false}
 use mathlib.Core.Path.{sym, ◌∙◌}

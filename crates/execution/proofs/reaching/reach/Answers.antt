@@ -1,3 +1,4 @@
+-- A field instruction has its own function; any other number touches the frame alone.
 use Rattle.execution.specs.Opcodes.{opcode_numbered}
 use Rattle.definition.specs.Instructions.{pick}
 use Rattle.execution.specs.Reaches.{plainly}

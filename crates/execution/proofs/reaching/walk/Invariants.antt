@@ -1,3 +1,4 @@
+-- k instructions are walked, the row stands at point p with d operands, and the objects keep their length.
 use mathlib.Core.Path.{◌≡◌}
 use Prim.Native.Nat.{ℕ, ◌-◌, ◌≤◌}
 use lib.ListN.{length}

@@ -1,3 +1,4 @@
+-- k steps are taken, what is left of the run is the whole run, the store is not broken, what a new object asks for is at hand, and what is remembered is right.
 use mathlib.Core.Path.{◌≡◌}
 use Prim.Native.Nat.{◌-◌, ◌≤◌}
 use mathlib.Core.Bool.{false}

@@ -1,3 +1,4 @@
+-- The opcode is one byte long, and the plan is carried out on the row.
 use Rattle.definition.specs.declared.Instruction.TheVariants.{Arithmetic}
 use Rattle.execution.specs.Plain.{stepping, decode-arithmetic}
 use native.Mathlib.Omega.{arith}

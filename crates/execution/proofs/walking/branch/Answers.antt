@@ -1,3 +1,4 @@
+-- With fewer than two bytes behind the opcode the row stays; else they are the target.
 use Rattle.definition.specs.declared.Instruction.TheVariants.{Branch}
 use Rattle.execution.specs.Plain.{stayed, stepping, decode-branch}
 use native.Mathlib.Omega.{arith}

@@ -1,3 +1,4 @@
+-- Too many operands leave the row; else it is moved on.
 use Rattle.execution.specs.Plain.{left_so, put-so}
 use mathlib.Core.Path.{refl}
 use Rattle.execution.proofs.walking.keep.Goals as goal

@@ -1,3 +1,4 @@
+-- With no byte behind the opcode the row stays; else the byte is the local that is loaded.
 use Rattle.definition.specs.declared.Instruction.TheVariants.{Load}
 use Rattle.execution.specs.Plain.{stayed, stepping, decode-load}
 use native.Mathlib.Omega.{arith}

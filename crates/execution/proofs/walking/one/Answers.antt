@@ -1,3 +1,4 @@
+-- Each number has the function of its opcode; any other leaves the row.
 use Rattle.definition.specs.Instructions.{pick}
 use Rattle.execution.specs.Opcodes.{opcode_numbered}
 use Rattle.execution.specs.Plain.{stayed}

@@ -1,3 +1,4 @@
+-- A value is put above the operands where there is room; any other plan leaves the row.
 use Rattle.execution.specs.Plain.{left_so, put-value}
 use mathlib.Core.Path.{refl}
 use Rattle.execution.proofs.walking.put_above.Goals as goal

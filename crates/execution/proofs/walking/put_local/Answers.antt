@@ -1,3 +1,4 @@
+-- A local is set where the operands that stay fit; any other plan leaves the row.
 use Rattle.execution.specs.Plain.{left_so, put-set}
 use mathlib.Core.Path.{refl}
 use Rattle.execution.proofs.walking.put_local.Goals as goal

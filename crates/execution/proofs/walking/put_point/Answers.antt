@@ -1,3 +1,4 @@
+-- Operands stay at the next point or at the one jumped to; any other plan leaves the row.
 use Rattle.execution.specs.Plain.{left_so, put-kept, put-jumped}
 use Rattle.execution.proofs.walking.put_point.Goals as goal
 

@@ -1,3 +1,4 @@
+-- With fewer than two bytes behind the opcode the row stays; else they are the int that is pushed.
 use Rattle.definition.specs.Instructions.{extend}
 use Rattle.definition.specs.declared.Instruction.TheVariants.{Sipush}
 use Rattle.execution.specs.Plain.{stayed, stepping, decode-sipush}

@@ -1,3 +1,4 @@
+-- With no byte behind the opcode the row stays; else the byte is the local that is set.
 use Rattle.definition.specs.declared.Instruction.TheVariants.{Store}
 use Rattle.execution.specs.Plain.{stayed, stepping, decode-store}
 use native.Mathlib.Omega.{arith}
