@@ -9,7 +9,7 @@ use native.Mathlib.Omega.{arith}
 use Rattle.lines.proofs.keep_rest.Goals as goal
 
 pub loop-i-init : goal.loop-i-init
-loop-i-init c = (omega arith, omega arith, moved_none _ _, refl, ⊎_elim (λ w. omega arith) (λ w. omega arith) c.if-to-size.branch)
+loop-i-init c = (omega arith, omega arith, moved_none _ _, refl, elim c.if-to-size.branch [ goal.then-to-size w ↦ omega arith | goal.else-to-size w ↦ omega arith ])
 
 pub loop-i-preserved : goal.loop-i-preserved
 loop-i-preserved c =
@@ -21,4 +21,4 @@ shape_of-window c =
 
 pub returns : goal.returns
 returns c =
-    c.loop-i.invariant.2 ∙ moved_same c.args.from c.loop-i.i c.if-to-size.end c.args.window.now (omega arith) ∙ ⊎_elim (λ w. rw w.1) (λ w. rw w.1 (moved-end _ _ _ w.0.left)) c.if-to-size.branch
+    c.loop-i.invariant.2 ∙ moved_same c.args.from c.loop-i.i c.if-to-size.end c.args.window.now (omega arith) ∙ (elim c.if-to-size.branch [ goal.then-to-size w ↦ rw w.end-is | goal.else-to-size w ↦ rw w.end-is (moved-end _ _ _ w.if-to-size.false) ])

@@ -14,12 +14,12 @@ returns-then-n-gt65536 c =
 
 pub returns-then-not-last : goal.returns-then-not-last
 returns-then-not-last c =
-    next-open _ _ (rw c.line_length-bytes.ensures at c.if-bytes-n.false) c.if-n-gt65536.false (not-true _ c.if-not-last.true)
+    next-open _ _ (rw c.line_length-bytes.ensures at c.if-bytes-n.false) c.if-n-gt65536.false c.if-not-last.true
 
 pub returns-then-n-eq0 : goal.returns-then-n-eq0
 returns-then-n-eq0 c =
-    next-none _ _ (rw c.line_length-bytes.ensures at c.if-bytes-n.false) (not-false _ c.if-not-last.false) c.if-n-eq0.true
+    next-none _ _ (rw c.line_length-bytes.ensures at c.if-bytes-n.false) c.if-not-last.false c.if-n-eq0.true
 
 pub returns : goal.returns
 returns c =
-    next_last _ _ (rw c.line_length-bytes.ensures at c.if-bytes-n.false) c.if-n-gt65536.false (not-false _ c.if-not-last.false) c.if-n-eq0.false
+    next_last _ _ (rw c.line_length-bytes.ensures at c.if-bytes-n.false) c.if-n-gt65536.false c.if-not-last.false c.if-n-eq0.false
