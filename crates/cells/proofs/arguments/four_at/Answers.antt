@@ -4,8 +4,7 @@ use mathlib.Core.List.{[], ◌∷◌}
 use Prim.Native.Nat.{ℕ, zero, suc}
 use lib.ListN.{get_or}
 use borrow.Author.Rules.{rules}
-use Rattle.cells.proofs.arguments.four_at.Statement.{statement}
-use Rattle.cells.proofs.arguments.four_at.Tie as tie
+use Rattle.cells.proofs.arguments.four_at.Goals as goal
 
 none-past : (x y z t i : ℕ) → (i ≡ 0 → ⊥) → (i ≡ 1 → ⊥) → (i ≡ 2 → ⊥) → (i ≡ 3 → ⊥) → 0 ≡ get_or (x ∷ y ∷ z ∷ t ∷ []) i 0
 none-past x y z t zero a b c d = absurd (a refl)
@@ -14,8 +13,5 @@ none-past x y z t (suc (suc zero)) a b c d = absurd (c refl)
 none-past x y z t (suc (suc (suc zero))) a b c d = absurd (d refl)
 none-past x y z t (suc (suc (suc (suc i)))) a b c d = refl
 
-past : tie.Need-returns-5
-past c = none-past _ _ _ _ _ c.match.rest.0.0.0.1 c.match.rest.0.0.1 c.match.rest.0.1 c.match.rest.1
-
-pub four-at-spec : {M : Type 1} → statement M
-four-at-spec = tie.close (tie.spec (λ c. search rules) (λ c. search rules) (λ c. search rules) (λ c. search rules) past)
+pub returns-in_default : goal.returns-in_default
+returns-in_default c = none-past _ _ _ _ _ c.in_default.in_default-own.rest.0.0.0.1 c.in_default.in_default-own.rest.0.0.1 c.in_default.in_default-own.rest.0.1 c.in_default.in_default-own.rest.1

@@ -4,8 +4,7 @@ use mathlib.Core.List.{[], ◌∷◌}
 use Prim.Native.Nat.{ℕ, zero, suc}
 use lib.ListN.{get_or}
 use borrow.Author.Rules.{rules}
-use Rattle.cells.proofs.arguments.three_at.Statement.{statement}
-use Rattle.cells.proofs.arguments.three_at.Tie as tie
+use Rattle.cells.proofs.arguments.three_at.Goals as goal
 
 none-past : (x y z i : ℕ) → (i ≡ 0 → ⊥) → (i ≡ 1 → ⊥) → (i ≡ 2 → ⊥) → 0 ≡ get_or (x ∷ y ∷ z ∷ []) i 0
 none-past x y z zero a b c = absurd (a refl)
@@ -13,8 +12,5 @@ none-past x y z (suc zero) a b c = absurd (b refl)
 none-past x y z (suc (suc zero)) a b c = absurd (c refl)
 none-past x y z (suc (suc (suc i))) a b c = refl
 
-past : tie.Need-returns-4
-past c = none-past _ _ _ _ c.match.rest.0.0.1 c.match.rest.0.1 c.match.rest.1
-
-pub three-at-spec : {M : Type 1} → statement M
-three-at-spec = tie.close (tie.spec (λ c. search rules) (λ c. search rules) (λ c. search rules) past)
+pub returns-in_default : goal.returns-in_default
+returns-in_default c = none-past _ _ _ _ c.in_default.in_default-own.rest.0.0.1 c.in_default.in_default-own.rest.0.1 c.in_default.in_default-own.rest.1

@@ -13,8 +13,7 @@ use Rattle.definition.specs.Instructions.{shorts_at}
 use Rattle.definition.specs.Maybe.{◌>>=◌, need}
 use Rattle.cells.specs.Listed.{or_no_arguments, list_at, list_read, shorts-past}
 use borrow.Author.Rules.{rules}
-use Rattle.cells.proofs.arguments.arguments_at.Statement.{statement}
-use Rattle.cells.proofs.arguments.arguments_at.Tie as tie
+use Rattle.cells.proofs.arguments.arguments_at.Goals as goal
 
 module _ (bs : List ℕ) (p n : ℕ) (a : Arguments) (few : n ≤ argument_limit) where
   read : some a ≡ arguments_of (shorts_at bs p n) → a ≡ list_at bs p n
@@ -23,15 +22,12 @@ module _ (bs : List ℕ) (p n : ℕ) (a : Arguments) (few : n ≤ argument_limit
   past : length bs ≤ p → some a ≡ arguments_of (shorts_at bs (length bs) n) → a ≡ list_at bs p n
   past h e = read (e ∙ ap arguments_of (shorts-past bs (length bs) p n (omega arith) h))
 
-returns : tie.Need-returns
+pub returns-then-n-gt-ARGUMENT_LIMIT : goal.returns-then-n-gt-ARGUMENT_LIMIT
 unfolding list_at need ◌>>=◌ or_no_arguments
-returns c = rw (lt-leb _ argument_limit c.if1.true)
+returns-then-n-gt-ARGUMENT_LIMIT c = rw (lt-leb _ argument_limit c.if-n-gt-ARGUMENT_LIMIT.true)
 
-returns-2 : tie.Need-returns-2
-returns-2 c = read _ _ _ _ c.before.before.if1.false c.few-at.ensures
+pub returns-then-place-bytes : goal.returns-then-place-bytes
+returns-then-place-bytes c = read _ _ _ _ c.if-n-gt-ARGUMENT_LIMIT.false c.few_at.ensures
 
-returns-3 : tie.Need-returns-3
-returns-3 c = past _ _ _ _ c.before.before.if1.false c.before.if2.false c.few-at2.ensures
-
-pub arguments-at-spec : {M : Type 1} → statement M
-arguments-at-spec = tie.close (tie.spec returns (λ c κs. search rules) (λ c κs. search rules) returns-2 returns-3)
+pub returns-else-place-bytes : goal.returns-else-place-bytes
+returns-else-place-bytes c = past _ _ _ _ c.if-n-gt-ARGUMENT_LIMIT.false c.if-place-bytes.false c.few_at-else-place-bytes.ensures

@@ -7,8 +7,7 @@ use lib.IntN.{pos, negsuc}
 use lib.Dec.{ltb}
 use borrow.Author.Tests.{lt-ltb, le-ltb, ltb-true, ltb-false}
 use Rattle.definition.specs.Answers.{signed, less}
-use Rattle.cells.proofs.is_less.Statement.{statement}
-use Rattle.cells.proofs.is_less.Tie as tie
+use Rattle.cells.proofs.is_less.Goals as goal
 
 mirrored : (a b : ℕ) → a < 4294967296 → b < 4294967296 → ltb a b ≡ ltb (4294967296 - 1 - b) (4294967296 - 1 - a)
 mirrored a b x y = go (ltb a b) refl
@@ -25,21 +24,18 @@ signed_high : (n : ℕ) → 2147483648 ≤ n → signed n ≡ negsuc (4294967296
 unfolding signed
 signed_high n h = rw (le-ltb n 2147483648 h, signed)
 
-returns : tie.Need-returns
+pub returns-then-b-lt-SIGN_BIT : goal.returns-then-b-lt-SIGN_BIT
 unfolding less
-returns c = rw (signed_low _ c.before.if1.true, signed_low _ c.if2.true)
+returns-then-b-lt-SIGN_BIT c = rw (signed_low _ c.if-a-lt-SIGN_BIT.true, signed_low _ c.if-b-lt-SIGN_BIT.true)
 
-returns-2 : tie.Need-returns-2
+pub returns-then-a-lt-SIGN_BIT : goal.returns-then-a-lt-SIGN_BIT
 unfolding less
-returns-2 c = rw (signed_low _ c.before.if1.true, signed_high _ c.if2.false)
+returns-then-a-lt-SIGN_BIT c = rw (signed_low _ c.if-a-lt-SIGN_BIT.true, signed_high _ c.if-b-lt-SIGN_BIT.false)
 
-returns-3 : tie.Need-returns-3
+pub returns-then-b-lt-SIGN_BIT-2 : goal.returns-then-b-lt-SIGN_BIT-2
 unfolding less
-returns-3 c = rw (signed_high _ c.before.if1.false, signed_low _ c.if3.true)
+returns-then-b-lt-SIGN_BIT-2 c = rw (signed_high _ c.if-a-lt-SIGN_BIT.false, signed_low _ c.if-b-lt-SIGN_BIT-2.true)
 
-returns-4 : tie.Need-returns-4
+pub returns : goal.returns
 unfolding less
-returns-4 c = rw (signed_high _ c.before.if1.false, signed_high _ c.if3.false) (mirrored c.before.before.args.a c.before.before.args.b (omega arith) (omega arith))
-
-pub is-less-spec : {M : Type 1} → statement M
-is-less-spec = tie.close (tie.spec returns returns-2 returns-3 returns-4)
+returns c = rw (signed_high _ c.if-a-lt-SIGN_BIT.false, signed_high _ c.if-b-lt-SIGN_BIT-2.false) (mirrored c.args.a c.args.b (omega arith) (omega arith))

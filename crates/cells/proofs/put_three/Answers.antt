@@ -1,0 +1,6 @@
+-- Three cells are written at the row's places.
+use borrow.Author.Rules.{rules}
+use Rattle.cells.proofs.put_three.Goals as goal
+
+pub returns : goal.returns
+returns c = rw (c.put16-3.ensures, c.put16-2.ensures, c.put16.ensures, c.wide32-place.ensures.0)
