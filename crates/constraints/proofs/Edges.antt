@@ -27,7 +27,7 @@ forward t = record { from = at t.one t.name; to = at t.two t.name }
 abbrev pub upward : Subtype → Edge Request
 upward s = record { from = at s.loader s.low; to = at s.loader s.high }
 
-pub upward-in : {ss : List Subtype} {s : Subtype} → Memᴰ s ss → Memᴰ (upward s) (subtype_edges ss)
+pub upward-in : {s : Subtype} {ss : List Subtype} → Memᴰ s ss → Memᴰ (upward s) (subtype_edges ss)
 unfolding subtype_edges
 upward-in (Memᴰ.head e) = Memᴰ.head (ap (λ (x : Subtype). upward x) e)
 upward-in (Memᴰ.tail m) = Memᴰ.tail (upward-in m)

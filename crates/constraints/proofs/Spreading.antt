@@ -2,7 +2,7 @@
 -- that leads to a node of one layer, the next layer is found: all nodes from which the shortest walk is one row longer. A search that meets an empty layer has
 -- found every node from which there is a walk.
 use mathlib.Core.Path.{◌≡◌, refl, sym, ap, ◌∙◌}
-use mathlib.Core.Bool.{Bool, true, false, false≢true, not, ◌&&◌}
+use mathlib.Core.Bool.{Bool, true, false, false≢true, not}
 use mathlib.Core.List.Memᴰ
 use mathlib.Core.List.{List, [], ◌∷◌, Memᴰ, ◌++◌}
 use mathlib.Core.Logic.{◌⊎◌, inl, inr}

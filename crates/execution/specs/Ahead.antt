@@ -1,17 +1,12 @@
 -- Steps of a task that ran, one after another: what is left of a run after them.
-use Rattle.std.specs.Prelude.{◌≡◌, refl, false, List, ◌≢◌, ℕ, zero, suc, ◌+◌, ◌-◌, ◌<◌, ◌≤◌, length, get_or}
+use Rattle.std.specs.Prelude.{◌≡◌, refl, false, List, ℕ, zero, suc, ◌+◌, ◌-◌, ◌≤◌}
 use Rattle.std.proofs.Common.{arith}
 use Rattle.definition.specs.declared.Answer.{Answer}
 use Rattle.definition.specs.declared.Answer.TheVariants.{Ran}
-use Rattle.definition.specs.Instructions.{opcode_of}
-use Rattle.definition.specs.Tables.{Tables, tables, frame_base}
+use Rattle.definition.specs.Tables.{Tables, tables}
 use Rattle.definition.specs.Broken.{broken}
 use Rattle.definition.specs.Calls.{step_tables, run_from}
-use Rattle.classfile.specs.Reading.{file_version, quick_methods}
-use Rattle.resolution.specs.Quick.{file_in}
-use Rattle.resolution.specs.Lookups.{code_in}
 use Rattle.tasks.specs.Turns.{turn_of}
-use Rattle.execution.specs.Opcodes.{opcode_numbered}
 
 -- tables whose store is not broken, whatever else it has
 pub record Sound (N L K F : List ℕ) : Type 0 where
@@ -52,11 +47,3 @@ last_some (suc r) j k a e q = rw q
 pub go-on : (n k r : ℕ) (a b : Answer) (t u : Tables) → b ≡ last_of r (turn_of t.counts) a → Ahead (turn_of t.counts) r t u → k + r ≤ n
     → run_from step_tables (n - (k + r)) (k + r) b u ≡ run_from step_tables (n - k) k a t
 go-on n k r a b t u f h l = rw f (h.runs n k a l)
-
--- the top frame of the task whose turn it is stands before the opcode with that number, unless that is 0
-pub record Stopped (N L K F : List ℕ) (stop : ℕ) : Type 0 where
-  pub at : stop ≢ 0 → (k n b c j p : ℕ) → k ≡ turn_of N → n ≡ get_or N (6 + k) 0 → b ≡ frame_base k (n - 1) → c ≡ get_or F b 0 → j ≡ get_or F (b + 1) 0 → p ≡ get_or F (b + 2) 0
-      → (let code = code_in (quick_methods (file_in N L K c)) j in (opcode_of (file_version (file_in N L K c)) (get_or code p 0) ≡ opcode_numbered stop) × (p < length code))
-
-pub stopped-not : (N L K F : List ℕ) (stop : ℕ) → stop ≡ 0 → Stopped N L K F stop
-stopped-not N L K F stop e = record { at = λ h. absurd (h e) }

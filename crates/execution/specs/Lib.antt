@@ -12,16 +12,10 @@ pub mod Plain
 pub mod Memory
 pub mod Remembered
 pub mod Ties
-pub mod Kinds
-pub mod News
-pub mod Codes
 pub mod Facts
 pub mod Known
 pub mod Reaches
 pub mod Parts
 pub mod Ahead
 pub mod Walks
-pub mod Gives
-pub mod Calls
-pub mod Makes
 pub mod Starts

@@ -21,7 +21,7 @@ recalled T A key p r none = pick (eqb (get_or T (index_of key p r) 0) (tag_of ke
 abbrev pub Right : (ℕ → ℕ → ℕ → ℕ → Type 0) → List ℕ → List ℕ → Type 0
 Right P T A = (key p r : ℕ) → p < 512 → r < 64 → get_or T (index_of key p r) 0 ≡ tag_of key p r → P key p r (get_or A (index_of key p r) 0)
 
-pub index-low : (key p r : ℕ) → index_of key p r < 512
+index-low : (key p r : ℕ) → index_of key p r < 512
 unfolding index_of
 index-low key p r = omega arith
 

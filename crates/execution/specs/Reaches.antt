@@ -22,14 +22,14 @@ use Rattle.execution.specs.Plain.{Wrote, Putting, Cells, At, wrote-cells, wrote-
 abbrev cell : ℕ → ℕ → Cell
 cell k b = record { kind = k; bits = b }
 
--- the receiver in cells of a kind and bits is an object in use; of the place p of method `key`, for its class, j is remembered
+-- the receiver in cells of a kind and bits is an object in use; of the place p of method `key`, for its class, slot j is remembered
 pub record Known (T A N O : List ℕ) (key p kind bits j : ℕ) : Type 0 where
   pub is : kind ≡ 3
   pub made : is_used N bits ≡ true
   pub place : p < 512
   pub class : get_or O (bits * 33) 0 < 64
   pub fact : j ≡ recalled T A key p (get_or O (bits * 33) 0) 16
-  pub some-j : j ≢ 16
+  pub low : j < 16
 
 -- getfield: the row G with point q and e operands
 pub record Got (T A N : List ℕ) (key v : ℕ) (code R O : List ℕ) (p d q e : ℕ) (G : List ℕ) : Type 0 where
@@ -150,14 +150,6 @@ pub here : (T A N : List ℕ) (key v : ℕ) (code R O : List ℕ) → Walked T A
 unfolding Walked
 here T A N key v code R O = (refl, refl)
 
--- the row stands before the opcode with that number, unless that is 0, by the numbers xs
-pub record Stops (xs code G : List ℕ) (stop : ℕ) : Type 0 where
-  pub opcode : stop ≢ 0 → (v : ℕ) → Numbers v xs → opcode_of v (get_or code (get_or G 2 0) 0) ≡ opcode_numbered stop
-  pub inside : stop ≢ 0 → get_or G 2 0 < length code
-
-pub stops-unknown : (xs code G : List ℕ) → Stops xs code G 0
-stops-unknown xs code G = record { opcode = λ h. absurd (h refl); inside = λ h. absurd (h refl) }
-
 -- one instruction more
 walk-on : (T A N : List ℕ) (key v : ℕ) (code R O S Q G P : List ℕ) (k p d : ℕ) (m : Moved) → Walked T A N key v code R O k S Q → At S p d
     → Stepping T A N key v code S Q p d m G P → m.on ≡ true → Walked T A N key v code R O (k + 1) G P × At G m.point m.depth
@@ -182,9 +174,3 @@ module _ (T A N : List ℕ) (key : ℕ) (code R O S Q G P xs : List ℕ) (k p d 
 
   pub walk-stops : m.on ≡ false → (v : ℕ) → Numbers v xs → Walked T A N key v code R O k G P
   walk-stops o v h = let z = (stepped v h).not o in rw (z.0, z.1) (w v h)
-
-  pub walk-stands : (v : ℕ) × Numbers v xs → At S p d → p < length code → m.on ≡ false → Stops xs code G n
-  walk-stands z t low o =
-      let same : G ≡ S = ((stepped z.0 z.1).not o).0 in
-      let y : get_or G 2 0 ≡ p = ap (λ (r : List ℕ). get_or r 2 0) same ∙ sym t.0 in
-      record { opcode = λ _ v h. rw y (numbered-at v xs code p a b i n e f l g q h); inside = λ _. rw y low }

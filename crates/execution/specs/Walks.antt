@@ -15,7 +15,7 @@ use Rattle.definition.specs.declared.Answer.{Answer}
 use Rattle.definition.specs.declared.Answer.TheVariants.{Ran}
 use Rattle.definition.specs.declared.Instruction.{Instruction}
 use Rattle.definition.specs.declared.Instruction.TheVariants.{Getfield, Putfield}
-use Rattle.definition.specs.Instructions.{pick, opcode_of, short_at, decode}
+use Rattle.definition.specs.Instructions.{pick, short_at, decode}
 use Rattle.definition.specs.Machine.{object_value}
 use Rattle.definition.specs.Tables.{Tables, tables, frame_base, value_of, operand_at}
 use Rattle.definition.specs.Broken.{broken}
@@ -37,14 +37,13 @@ use Rattle.execution.specs.Steps.{Chosen, chosen, usable, row_low, depth-few}
 use Rattle.execution.specs.Turns.{turn-carried, turn-count}
 use Rattle.execution.specs.Runs.{run_on, still-whole}
 use Rattle.execution.specs.Memory.{recalled-right}
-use Rattle.execution.specs.Facts.{FactOf, Fact, Minds, found-for}
+use Rattle.execution.specs.Facts.{FactOf, Fact, Minds}
 use Rattle.execution.specs.Known.{acted-get, acted-put}
 use Rattle.execution.specs.RowCells.{IsRow, operand_row}
 use Rattle.execution.specs.Plain as plain
 use Rattle.execution.specs.Plain.{Wrote, Cells}
-use Rattle.execution.specs.Opcodes.{opcode_numbered, Numbers}
-use Rattle.execution.specs.Reaches.{Known, Got, Put, Step, within, got, wrote, Walked, Stops, step-cells}
-use Rattle.execution.specs.Ahead.{last_of, Ahead, Stopped}
+use Rattle.execution.specs.Reaches.{Known, Got, Put, Step, within, got, wrote, Walked, step-cells}
+use Rattle.execution.specs.Ahead.{last_of, Ahead}
 use Rattle.execution.specs.Parts.{pasted, paste-row, paste-moved, paste-operand, paste-local}
 
 -- the row of the top frame lies within the table
@@ -60,7 +59,7 @@ row_fits N L K E I S O F whole k n turns frames some-n =
     )
 
 -- cells of an object
-pub object-is : (k b : ℕ) → k ≡ 3 → object_value b ≡ value_of k b
+object-is : (k b : ℕ) → k ≡ 3 → object_value b ≡ value_of k b
 unfolding value_of pick
 object-is k b e = rw e
 
@@ -123,11 +122,11 @@ module _ (N L K E I S F : List ℕ) (k n b v : ℕ) (code : List ℕ) (turns : k
 
   -- what is remembered of the instruction at point p, for the receiver
   fact : (R O : List ℕ) → Standing R O → (p kind bits j : ℕ) → Known T A N O key p kind bits j → (i : Instruction) (s : ℕ) → decode v code p ≡ some (decoded i s)
-      → FactOf N L K E I (loader_in N L (get_or R 0 0)) i s (get_or O (bits * 33) 0) j
+      → FactOf N L K E I (loader_in N L (get_or R 0 0)) i (get_or O (bits * 33) 0) j
   fact R O st p kind bits j h i s d =
       let f : Fact N L K E I key p (get_or O (bits * 33) 0) j =
-      recalled-right (Fact N L K E I) T A right.right key p (get_or O (bits * 33) 0) 16 j h.place h.class h.fact h.some-j in
-      found-for N L K E I (get_or R 0 0) (get_or R 1 0) p (get_or O (bits * 33) 0) j (f.holds (get_or R 0 0) (get_or R 1 0) st.method st.number) i s (rw (← st.source, ← st.version) d)
+      recalled-right (Fact N L K E I) T A right.right key p (get_or O (bits * 33) 0) 16 j h.place h.class h.fact (λ e. omega (arith, h.low)) in
+      f.holds (get_or R 0 0) (get_or R 1 0) st.method st.number i s (rw (← st.source, ← st.version) d)
 
   module _ (R O G P : List ℕ) (st : Standing R O) (p d : ℕ) (deep : d ≡ get_or R 3 0) (q e : ℕ) where
     is_row : IsRow (pasted F b R) b R
@@ -243,25 +242,6 @@ module _ (N L K E I S F : List ℕ) (k n b v : ℕ) (code : List ℕ) (turns : k
   pub walked-ahead : (R O : List ℕ) → Standing R O → (r : ℕ) (G P : List ℕ) → Walked T A N key v code R O r G P → Ahead k r (store R O) (store G P)
   walked-ahead R O st r G P w = let g : Gone R O r G P = gone R O st r G P w in record { runs = g.runs; whole = g.stands.whole }
 
-  -- before which opcode the walk stopped
-  pub walked-stops : (R O : List ℕ) → Standing R O → (r : ℕ) (G P : List ℕ) → Walked T A N key v code R O r G P → (xs : List ℕ) (stop : ℕ) → Numbers v xs → Stops xs code G stop → Stopped N L K (pasted F b G) stop
-  walked-stops R O st r G P w xs stop h s = record { at = at }
-    where
-      to : Standing G P
-      to = (gone R O st r G P w).stands
-
-      at : stop ≢ 0 → (k₂ n₂ b₂ c j p : ℕ) → k₂ ≡ turn_of N → n₂ ≡ get_or N (6 + k₂) 0 → b₂ ≡ frame_base k₂ (n₂ - 1) → c ≡ get_or (pasted F b G) b₂ 0 → j ≡ get_or (pasted F b G) (b₂ + 1) 0
-          → p ≡ get_or (pasted F b G) (b₂ + 2) 0
-          → (let code = code_in (quick_methods (file_in N L K c)) j in (opcode_of (file_version (file_in N L K c)) (get_or code p 0) ≡ opcode_numbered stop) × (p < length code))
-      at there k₂ n₂ b₂ c j p e1 e2 e3 e4 e5 e6 =
-          let kk : k₂ ≡ k = e1 ∙ sym turns in
-          let nn : n₂ ≡ n = e2 ∙ (ap (λ (z : ℕ). get_or N (6 + z) 0) kk ∙ sym frames) in
-          let bb : b₂ ≡ b = e3 ∙ ((λ i. frame_base (kk i) (nn i - 1)) ∙ sym row) in
-          let x : c ≡ get_or G 0 0 = e4 ∙ (ap (λ (z : ℕ). get_or (pasted F b G) z 0) bb ∙ sym (class-cell G P to)) in
-          let y : j ≡ get_or G 1 0 = e5 ∙ (ap (λ (z : ℕ). get_or (pasted F b G) (z + 1) 0) bb ∙ sym (cell G P to 1 (omega arith))) in
-          let z : p ≡ get_or G 2 0 = e6 ∙ (ap (λ (z : ℕ). get_or (pasted F b G) (z + 2) 0) bb ∙ sym (cell G P to 2 (omega arith))) in
-          rw (x, y, z, ← to.source, ← to.version) (s.opcode there v h, s.inside there)
-
 -- The row as the part of the frames that is lent: it is walked, and what it then holds is put back
 module _ (N L K E I S O F : List ℕ) (whole : broken (tables N L K E I S O F) ≡ false) (k n : ℕ) (turns : k ≡ turn_of N) (frames : n ≡ get_or N (6 + k) 0) (some-n : n ≢ 0) (b : ℕ)
     (row : b ≡ frame_base k (n - 1)) where
@@ -321,14 +301,3 @@ module _ (N L K E I S O F : List ℕ) (whole : broken (tables N L K E I S O F) �
         let w' : Walked T A N key v code part O r G P = subst (λ (f : ℕ). Walked T A N key v code (take 52 (drop f F)) O r G P) e (subst (λ (m : ℕ). Walked T A N key v code (take m (drop from F)) O r G P) z w) in
         subst⁻¹ (λ (m : ℕ). Ahead k r (tables N L K E I S O F) (tables N L K E I S P (take from F ++ (G ++ drop m (drop from F))))) z
         (subst⁻¹ (λ (f : ℕ). Ahead k r (tables N L K E I S O F) (tables N L K E I S P (take f F ++ (G ++ drop 52 (drop f F))))) e (ahead-row r G P w'))
-
-    stopped-row : (r : ℕ) (G P : List ℕ) → Walked T A N key v code part O r G P → (xs : List ℕ) (stop : ℕ) → Numbers v xs → Stops xs code G stop → Stopped N L K (pasted F b G) stop
-    stopped-row r G P w xs stop h s = walked-stops N L K E I S F k n b v code turns frames some-n row within-frames closed T A right key part O stands r G P w xs stop h s
-
-    pub stopped-part : (from r : ℕ) (G P : List ℕ) → from ≡ b → Walked T A N key v code (take (from + 52 - from) (drop from F)) O r G P → (xs : List ℕ) (stop : ℕ) → Numbers v xs → Stops xs code G stop
-        → Stopped N L K (take from F ++ (G ++ drop (from + 52 - from) (drop from F))) stop
-    stopped-part from r G P e w xs stop h s =
-        let z : from + 52 - from ≡ 52 = omega arith in
-        let w' : Walked T A N key v code part O r G P = subst (λ (f : ℕ). Walked T A N key v code (take 52 (drop f F)) O r G P) e (subst (λ (m : ℕ). Walked T A N key v code (take m (drop from F)) O r G P) z w) in
-        subst⁻¹ (λ (m : ℕ). Stopped N L K (take from F ++ (G ++ drop m (drop from F))) stop) z
-        (subst⁻¹ (λ (f : ℕ). Stopped N L K (take f F ++ (G ++ drop 52 (drop f F))) stop) e (stopped-row r G P w' xs stop h s))

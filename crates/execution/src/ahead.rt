@@ -4,11 +4,9 @@ ghost use Rattle.definition.specs.Tables.{tables};
 ghost use Rattle.definition.specs.Broken.{broken};
 ghost use Rattle.tasks.specs.Turns.{turn_of};
 ghost use Rattle.execution.specs.Opcodes.{numbers, Numbers};
-ghost use Rattle.execution.specs.Codes.{Codes};
 ghost use Rattle.execution.specs.Facts.{Minds};
-ghost use Rattle.execution.specs.Ahead.{Ahead, Sound, Stopped, last_of};
+ghost use Rattle.execution.specs.Ahead.{Ahead, Sound, last_of};
 
-use crate::coding::{known_code, known_version};
 use crate::memory::key_of;
 use crate::reaching::{Pace, walk};
 use definition::Answer;
@@ -28,7 +26,7 @@ pub(crate) fn last_of(counts: &[u16], more: u16, last: Answer) -> Answer
 }
 
 // Where the numbers of the opcodes of a version begin.
-pub(crate) fn first_number(version: u8) -> usize
+fn first_number(version: u8) -> usize
     ensures { (result ≤ 512) × Numbers version (take 256 (drop result numbers)) }
 {
     if version < VERSION_TWO {
@@ -38,13 +36,9 @@ pub(crate) fn first_number(version: u8) -> usize
 }
 
 fn no_walk() -> Pace
-    ensures { (result.steps ≡ 0) × (result.stop ≡ 0) }
+    ensures { result.steps ≡ 0 }
 {
-    Pace {
-        steps: 0,
-        stop: 0,
-        arguments: 0,
-    }
+    Pace { steps: 0, stop: 0 }
 }
 
 // Up to `most` steps of the task whose turn it is, where no load is open.
@@ -59,8 +53,8 @@ pub(crate) fn go_ahead(
     opcodes: &[u8],
     most: u16,
 ) -> Pace
-    requires { Sound counts.now classes.now kept.now frames.old × (opcodes.now ≡ numbers) × Codes counts.now classes.now kept.now facts.now }
-    ensures { ((E I S : List ℕ) → broken (tables counts.now classes.now kept.now E I S objects.old frames.old) ≡ false → Minds counts.now classes.now kept.now E I tags.now facts.now → Ahead (turn_of counts.now) result.steps (tables counts.now classes.now kept.now E I S objects.old frames.old) (tables counts.now classes.now kept.now E I S objects.new frames.new) × Stopped counts.now classes.now kept.now frames.new result.stop) × (result.steps ≤ most) }
+    requires { Sound counts.now classes.now kept.now frames.old × (opcodes.now ≡ numbers) }
+    ensures { ((E I S : List ℕ) → broken (tables counts.now classes.now kept.now E I S objects.old frames.old) ≡ false → Minds counts.now classes.now kept.now E I tags.now facts.now → Ahead (turn_of counts.now) result.steps (tables counts.now classes.now kept.now E I S objects.old frames.old) (tables counts.now classes.now kept.now E I S objects.new frames.new)) × (result.steps ≤ most) }
 {
     if most == 0 {
         return no_walk();
@@ -82,13 +76,14 @@ pub(crate) fn go_ahead(
     if 8 <= m {
         return no_walk();
     }
-    let key = key_of(c, m);
-    let code = known_code(facts, counts, classes, kept, key, c, m);
+    let file = resolution::file_of(counts, classes, kept, c);
+    let code = resolution::code_of(file, m);
     if CODE_LIMIT < code.len() {
         return no_walk();
     }
-    let first = first_number(known_version(facts, counts, classes, kept, key, c, m));
+    let first = first_number(classfile::version(file));
     let last = first + 256;
+    let key = key_of(c, m);
     let from = cells::wide32(b);
     let end = from + FRAME_CELLS;
     let row = &mut frames[from..end];

@@ -25,7 +25,7 @@ use posting::Posting;
 const TIE_NUMBERS: u16 = TIE_NUMBERS_CELL as u16;
 
 // How many ties and subtype constraints there were before a step.
-#[derive(Clone, Copy)]
+#[derive(Drop)]
 pub(crate) struct Before {
     pub(crate) ties: u16,
     pub(crate) subtypes: u16,
@@ -65,7 +65,7 @@ pub(crate) fn number_ties(counts: &mut [u16], before: Before, posting: Posting)
 }
 
 // A value pushed: the frame goes on at point q with d operands and the value above them.
-pub(crate) fn push(frames: &mut [u32], b: u32, q: u32, d: u32, v: Cell)
+fn push(frames: &mut [u32], b: u32, q: u32, d: u32, v: Cell)
     requires { d < operand_limit }
     ensures { frames.new ≡ put_operand b (moved frames.old b q (d + 1)) d (value_of v.kind v.bits) }
 {
@@ -82,7 +82,7 @@ fn store(frames: &mut [u32], b: u32, q: u32, d: u32, j: u8, v: Cell)
 }
 
 // A value given back to the frame below the top frame of a task, which is then its top frame.
-pub(crate) fn give(counts: &mut [u16], frames: &mut [u32], top: Top, v: Cell)
+fn give(counts: &mut [u16], frames: &mut [u32], top: Top, v: Cell)
     requires { (0 < top.row) × (get_or frames.old (frame_base top.task (top.row - 1) + depth_cell) 0 < operand_limit) }
     ensures counted { counts.new ≡ set counts.old (count_frames + top.task) top.row }
     ensures written { let a = frame_base top.task (top.row - 1) in let d = get_or frames.old (a + depth_cell) 0 in frames.new ≡ put_operand a (set frames.old (a + depth_cell) (d + 1)) d (value_of v.kind v.bits) }

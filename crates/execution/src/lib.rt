@@ -1,6 +1,4 @@
 // One step, a run of steps, and the start of a task, on the lent tables.
-#![tactic(auto)]
-
 mod settling; // settling.rt: a plan with the ties that it posts
 mod deciding; // deciding.rt: the decision on the instruction of a top frame
 mod entering; // entering.rt: a frame entered with its arguments
@@ -10,13 +8,8 @@ mod opcodes; // opcodes.rt: the opcodes by small numbers
 mod walking; // walking.rt: instructions that touch their frame alone, done on its row
 mod memory; // memory.rt: what a run remembers of the places of the code
 mod reaching; // reaching.rt: a walk of such instructions, and of fields that are remembered
-mod coding; // coding.rt: where the code of methods lies, found once
 mod noting; // noting.rt: what is remembered of the place at hand
 mod ahead; // ahead.rt: steps of the top frame ahead of the next that isn't such
-mod giving; // giving.rt: a return to the frame below, done at once
-mod calling; // calling.rt: a call that is remembered, done at once
-mod making; // making.rt: a new object that is remembered, made at once
-mod far; // far.rt: such steps, calls and returns, one after another
 mod runs; // runs.rt: a run of steps
 mod starting; // starting.rt: the start of a task
 

@@ -1,27 +1,23 @@
-// What is remembered of the place at which the top frame stands: the slot of the field that its instruction names, or the method that it calls, for receivers of a
-// class. It is looked up before the step that does the instruction, and only what is reached with no tie to post is remembered.
-ghost use Rattle.std.specs.Prelude.{◌≡◌, true, false, [], ◌∷◌, ◌++◌, ◌≢◌, ◌<◌, get_or};
+// What is remembered of the place at which the top frame stands: the slot of the field that its instruction names, for receivers of a class. It is looked up before
+// the step that does the instruction, and only a slot that is reached with no tie to post is remembered.
+ghost use Rattle.std.specs.Prelude.{◌≡◌, true, false, [], ◌<◌, get_or};
 ghost use Rattle.definition.specs.Lists.{rows};
-ghost use Rattle.definition.specs.Classes.{types_of};
-ghost use Rattle.definition.specs.Constraints.{new_ties};
+ghost use Rattle.definition.specs.Constraints.{new_tie};
 ghost use Rattle.definition.specs.Tables.{tie_at};
-ghost use Rattle.execution.specs.Kinds.{kind_bit, kind_bits};
-ghost use Rattle.execution.specs.Facts.{Slot, Method, Call, FactOf, Fact, Minds};
+ghost use Rattle.execution.specs.Facts.{Slot, FactOf, Fact, Minds};
 
-use crate::coding::{learn, learn_top};
-use crate::making::{NEW, note_new};
 use crate::memory::{key_of, remember};
-use definition::numbers::{COUNT_TIES, FIELD_LIMIT, KIND_OBJECT, NAME_INT};
-use definition::{Arguments, Instruction, Signature};
-use resolution::{Found, Selection};
+use definition::numbers::{COUNT_TIES, FIELD_LIMIT, KIND_OBJECT};
+use definition::{Arguments, Instruction};
+use resolution::Found;
 use verifier::Reading;
 
 // How many places a run can remember.
 const MEMORY_SIZE: usize = 512;
 
-// Whether the ties between two loaders on those names, and on the last, need no posting.
-fn is_old(counts: &[u16], ties: &[u16], one: u16, two: u16, names: Arguments, last: u16) -> bool
-    ensures { result ≡ true → new_ties (rows (tie_at ties.now) (get_or counts.now 3 0) 0) one two (types_of names ++ (last ∷ [])) ≡ [] }
+// Whether the tie between two loaders on a name needs no posting.
+fn is_old(counts: &[u16], ties: &[u16], one: u16, two: u16, of: u16) -> bool
+    ensures { result ≡ true → new_tie (rows (tie_at ties.now) (get_or counts.now 3 0) 0) one two of ≡ [] }
 {
     if one == two {
         return true;
@@ -37,8 +33,8 @@ fn is_old(counts: &[u16], ties: &[u16], one: u16, two: u16, names: Arguments, la
         cells::at16(counts, COUNT_TIES),
         one as u8,
         two as u8,
-        names,
-        last,
+        Arguments::NoArguments,
+        of,
     );
     posting::tie_number(posting) == 0
 }
@@ -56,7 +52,7 @@ fn slot_found(
     of: u16,
     r: u32,
 ) -> u32
-    ensures { result ≢ 16 → Slot counts.now classes.now kept.now cache.now ties.now loader class name of r result }
+    ensures { result < 16 → Slot counts.now classes.now kept.now cache.now ties.now loader class name of r result }
 {
     let Found::At(e) = resolution::find(counts, cache, loader, class) else {
         return FIELD_LIMIT;
@@ -75,106 +71,11 @@ fn slot_found(
         ties,
         resolution::loader_of(counts, classes, s),
         loader,
-        Arguments::NoArguments,
         of,
     ) {
         return FIELD_LIMIT;
     }
-    if FIELD_LIMIT <= j { FIELD_LIMIT } else { j }
-}
-
-// No method has that number.
-const NO_METHOD: u32 = 512;
-
-// The number of the method that a call enters for receivers of class r, found under a loader with no tie to post; 512 if there is none.
-fn method_found(
-    counts: &[u16],
-    classes: &[u16],
-    kept: &[u8],
-    cache: &[u16],
-    ties: &[u16],
-    loader: u16,
-    class: u16,
-    s: Signature,
-    r: u32,
-) -> u32
-    ensures { result < 512 → Method counts.now classes.now kept.now cache.now ties.now loader class s r result }
-{
-    let Found::At(e) = resolution::find(counts, cache, loader, class) else {
-        return NO_METHOD;
-    };
-    let Selection::Selected(m, _) = resolution::select_method(counts, classes, kept, cache, e, s)
-    else {
-        return NO_METHOD;
-    };
-    if !resolution::is_below(counts, classes, kept, cache, r, e) {
-        return NO_METHOD;
-    }
-    let list = s.arguments;
-    let one = resolution::loader_of(counts, classes, m);
-    if !is_old(counts, ties, one, loader, list, s.result) {
-        return NO_METHOD;
-    }
-    let Selection::Selected(a, j) = resolution::select_method(counts, classes, kept, cache, r, s)
-    else {
-        return NO_METHOD;
-    };
-    if 64 <= a {
-        return NO_METHOD;
-    }
-    if 8 <= j { NO_METHOD } else { 8 * a + j }
-}
-
-// The bit of a type's kind: 0 for int, 1 for a reference.
-pub(crate) fn kind_bit(name: u16) -> u32
-    ensures { (result ≡ kind_bit name) × (result < 2) }
-{
-    if name == NAME_INT { 0 } else { 1 }
-}
-
-// The kinds of argument types as bits, the first type's the lowest.
-fn kind_bits(list: Arguments) -> u32
-    ensures { (result ≡ kind_bits (types_of list)) × (result < 16) }
-{
-    match list {
-        Arguments::NoArguments => 0,
-        Arguments::OneArgument(a) => kind_bit(a),
-        Arguments::TwoArguments(a, b) => kind_bit(a) + 2 * kind_bit(b),
-        Arguments::ThreeArguments(a, b, c) => { kind_bit(a) + 2 * kind_bit(b) + 4 * kind_bit(c) }
-        Arguments::FourArguments(a, b, c, d) => {
-            kind_bit(a) + 2 * kind_bit(b) + 4 * kind_bit(c) + 8 * kind_bit(d)
-        }
-    }
-}
-
-// What is remembered of a call of z bytes for receivers of class r: its method, the kinds of its arguments and their count, and z; 16 if there is none.
-fn call_found(
-    counts: &[u16],
-    classes: &[u16],
-    kept: &[u8],
-    cache: &[u16],
-    ties: &[u16],
-    loader: u16,
-    class: u16,
-    s: Signature,
-    z: usize,
-    r: u32,
-) -> u32
-    ensures { result ≢ 16 → Call counts.now classes.now kept.now cache.now ties.now loader class s z r result }
-{
-    if z == 0 {
-        return FIELD_LIMIT;
-    }
-    if 64 <= z {
-        return FIELD_LIMIT;
-    }
-    let m = method_found(counts, classes, kept, cache, ties, loader, class, s, r);
-    if NO_METHOD <= m {
-        return FIELD_LIMIT;
-    }
-    let list = s.arguments;
-    let n = cells::from16(cells::from8(cells::arguments::argument_count(list)));
-    m + 512 * kind_bits(list) + 8192 * n + 65536 * (z as u32)
+    j
 }
 
 // How far below the top of the operands an instruction's receiver stands; 0 if it has none that is asked for.
@@ -182,10 +83,6 @@ fn receiver_depth(i: Instruction) -> u32 {
     match i {
         Instruction::Getfield(_, _, _) => 1,
         Instruction::Putfield(_, _, _) => 2,
-        Instruction::Invokevirtual(_, s) => {
-            let list = s.arguments;
-            1 + cells::from16(cells::from8(cells::arguments::argument_count(list)))
-        }
         _ => 0,
     }
 }
@@ -207,7 +104,7 @@ fn receiver_class(objects: &[u32], frames: &[u32], b: u32, i: Instruction) -> u3
     frames::object_class(objects, x.bits)
 }
 
-// What is right for an instruction of z bytes of a class with that loader and receivers of class r; 16 if nothing is found.
+// What is right for an instruction of a class with that loader and receivers of class r; 16 if nothing is found.
 fn fact_of(
     counts: &[u16],
     classes: &[u16],
@@ -216,10 +113,9 @@ fn fact_of(
     ties: &[u16],
     loader: u16,
     i: Instruction,
-    z: usize,
     r: u32,
 ) -> u32
-    ensures { result ≢ 16 → FactOf counts.now classes.now kept.now cache.now ties.now loader i z r result }
+    ensures { result < 16 → FactOf counts.now classes.now kept.now cache.now ties.now loader i r result }
 {
     match i {
         Instruction::Getfield(class, name, of) => slot_found(
@@ -228,15 +124,12 @@ fn fact_of(
         Instruction::Putfield(class, name, of) => slot_found(
             counts, classes, kept, cache, ties, loader, class, name, of, r,
         ),
-        Instruction::Invokevirtual(class, s) => call_found(
-            counts, classes, kept, cache, ties, loader, class, s, z, r,
-        ),
         _ => FIELD_LIMIT,
     }
 }
 
 // A place, and what is right for it.
-#[derive(Clone, Copy)]
+#[derive(Drop)]
 pub(crate) struct Place {
     pub known: bool,
     pub key: u16,
@@ -284,7 +177,7 @@ fn place_of(
     }
     let file = resolution::file_of(counts, classes, kept, c);
     let code = resolution::code_of(file, m);
-    let Reading::At(i, z) = verifier::decode(classfile::version(file), code, cells::wide32(p))
+    let Reading::At(i, _) = verifier::decode(classfile::version(file), code, cells::wide32(p))
     else {
         return nowhere();
     };
@@ -293,8 +186,8 @@ fn place_of(
         return nowhere();
     }
     let loader = resolution::loader_of(counts, classes, c);
-    let f = fact_of(counts, classes, kept, cache, ties, loader, i, z, r);
-    if f == FIELD_LIMIT {
+    let f = fact_of(counts, classes, kept, cache, ties, loader, i, r);
+    if FIELD_LIMIT <= f {
         return nowhere();
     }
     Place {
@@ -344,15 +237,11 @@ fn is_noted(number: u8) -> bool {
     match number {
         16 => true,
         17 => true,
-        18 => true,
-        19 => true,
-        20 => true,
         _ => false,
     }
 }
 
-// What is found of the place at hand, before which a walk stopped at the opcode with that number, is remembered; and where the code of its method lies, and of the
-// method that a call enters.
+// What is found of the place at hand, before which a walk stopped at the opcode with that number, is remembered.
 pub(crate) fn note(
     tags: &mut [u32],
     facts: &mut [u32],
@@ -371,25 +260,14 @@ pub(crate) fn note(
     if !is_noted(stop) {
         return;
     }
-    if tags.len() < 2 * MEMORY_SIZE {
+    if tags.len() < MEMORY_SIZE {
         return;
     }
-    if facts.len() < 2 * MEMORY_SIZE {
-        return;
-    }
-    if stop == NEW {
-        note_new(tags, facts, counts, classes, kept, cache, frames);
-        learn_top(facts, counts, classes, kept, frames);
+    if facts.len() < MEMORY_SIZE {
         return;
     }
     let w = place_at_hand(counts, classes, kept, cache, ties, objects, frames);
-    if !w.known {
-        return;
+    if w.known {
+        remember(tags, facts, w.key, w.point, w.class, w.fact);
     }
-    let f = w.fact;
-    remember(tags, facts, w.key, w.point, w.class, f);
-    let c = cells::from16(w.key / 8);
-    let m = cells::from16(w.key % 8);
-    learn(facts, counts, classes, kept, c, m);
-    learn(facts, counts, classes, kept, f % 512 / 8, f % 8);
 }

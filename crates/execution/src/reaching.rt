@@ -1,9 +1,9 @@
 // A walk on a frame's row of cells and the objects: instructions that touch their frame alone, and fields whose slot is remembered for the receiver's class.
-ghost use Rattle.std.specs.Prelude.{◌≡◌, ◌≢◌, ℕ, ◌<◌, ◌≤◌, length, get_or};
+ghost use Rattle.std.specs.Prelude.{◌≡◌, ℕ, ◌<◌, ◌≤◌, length, get_or};
 ghost use Rattle.definition.specs.Numbers.{operand_limit};
 ghost use Rattle.execution.specs.Opcodes.{opcode_numbered, Numbers};
 ghost use Rattle.execution.specs.Plain.{Inside};
-ghost use Rattle.execution.specs.Reaches.{Known, Does, Walked, Stops};
+ghost use Rattle.execution.specs.Reaches.{Known, Does, Walked};
 
 use crate::memory::recall;
 use crate::walking::{Moved, keep, one, put_above, stay};
@@ -12,8 +12,8 @@ use definition::numbers::{FIELD_LIMIT, KIND_OBJECT};
 use frames::Cell;
 use instructions::Plan;
 
-// What is remembered of a place for the receiver x, 16 if nothing is.
-pub(crate) fn known_of(
+// The slot that is remembered of a place for the receiver x, 16 if none is.
+fn slot_of(
     tags: &[u32],
     facts: &[u32],
     counts: &[u16],
@@ -23,7 +23,7 @@ pub(crate) fn known_of(
     p: u32,
 ) -> u32
     requires { key < 512 }
-    ensures { result ≢ 16 → Known tags.now facts.now counts.now objects.now key p x.kind x.bits result }
+    ensures { result < 16 → Known tags.now facts.now counts.now objects.now key p x.kind x.bits result }
 {
     if x.kind != KIND_OBJECT {
         return FIELD_LIMIT;
@@ -62,7 +62,7 @@ fn getfield(
         return stay();
     }
     let x = frames::operand(row, 0, d - 1);
-    let j = known_of(tags, facts, counts, objects, x, key, p);
+    let j = slot_of(tags, facts, counts, objects, x, key, p);
     if FIELD_LIMIT <= j {
         return stay();
     }
@@ -97,7 +97,7 @@ fn putfield(
         return stay();
     }
     let x = frames::operand(row, 0, last - 1);
-    let j = known_of(tags, facts, counts, objects, x, key, p);
+    let j = slot_of(tags, facts, counts, objects, x, key, p);
     if FIELD_LIMIT <= j {
         return stay();
     }
@@ -132,23 +132,11 @@ fn reach(
     }
 }
 
-// How many instructions were done, and the number of the opcode before which it ended, 0 if that isn't known; if that is a call's, how many arguments it may have.
-#[derive(Clone, Copy)]
+// How many instructions were done, and the number of the opcode before which it ended, 0 if that isn't known.
+#[derive(Drop)]
 pub(crate) struct Pace {
     pub steps: u16,
     pub stop: u8,
-    pub arguments: u8,
-}
-
-// How many arguments the call at that point may have, whose opcode has that number.
-fn arguments_at(code: &[u8], at: usize, number: u8) -> u8
-    requires { at ≤ 65535 }
-{
-    if number == 19 {
-        cells::at8(code, at + 5)
-    } else {
-        1
-    }
 }
 
 // Up to `most` instructions of the frame in a row, by the numbers of the opcode bytes.
@@ -164,7 +152,7 @@ pub(crate) fn walk(
     most: u16,
 ) -> Pace
     requires { (length row.old ≡ 52) × (get_or row.old 3 0 ≤ 16) × (length code.now ≤ 65535) × (key < 512) × ((v : ℕ) × Numbers v numbers.now) }
-    ensures { ((v : ℕ) → Numbers v numbers.now → Walked tags.now facts.now counts.now key v code.now row.old objects.old result.steps row.new objects.new) × (result.steps ≤ most) × Stops numbers.now code.now row.new result.stop }
+    ensures { ((v : ℕ) → Numbers v numbers.now → Walked tags.now facts.now counts.now key v code.now row.old objects.old result.steps row.new objects.new) × (result.steps ≤ most) }
 {
     let mut p = frames::point(row, 0);
     let mut d = frames::depth(row, 0);
@@ -172,11 +160,7 @@ pub(crate) fn walk(
     while k < most {
         let at = cells::wide32(p);
         if code.len() <= at {
-            return Pace {
-                steps: k,
-                stop: 0,
-                arguments: 0,
-            };
+            return Pace { steps: k, stop: 0 };
         }
         let number = cells::at8(numbers, cells::wide8(cells::at8(code, at)));
         let m = reach(tags, facts, counts, objects, row, code, number, key, p, d);
@@ -184,16 +168,11 @@ pub(crate) fn walk(
             return Pace {
                 steps: k,
                 stop: number,
-                arguments: arguments_at(code, at, number),
             };
         }
         p = m.point;
         d = m.depth;
         k += 1;
     }
-    Pace {
-        steps: k,
-        stop: 0,
-        arguments: 0,
-    }
+    Pace { steps: k, stop: 0 }
 }

@@ -1,16 +1,15 @@
 // A run of steps.
 ghost use Rattle.std.specs.Prelude.{◌≡◌, false, ◌<◌};
+ghost use Rattle.definition.specs.Numbers.{object_limit};
 ghost use Rattle.definition.specs.Tables.{tables};
 ghost use Rattle.definition.specs.Broken.{broken};
 ghost use Rattle.definition.specs.Calls.{done, step_tables, run_from, run};
 ghost use Rattle.execution.specs.Opcodes.{numbers};
 ghost use Rattle.execution.specs.Facts.{Minds};
-ghost use Rattle.execution.specs.Runs.{goes_on, Ruled, RoomIn};
+ghost use Rattle.execution.specs.Runs.{goes_on, Ruled, RoomIn, RoomAfter};
 
-use crate::ahead::last_of;
+use crate::ahead::{go_ahead, last_of};
 use crate::deciding::Room;
-use crate::far::go_far;
-use crate::making::next_room;
 use crate::noting::note;
 use crate::opcodes::OPCODE_NUMBERS;
 use crate::turns::step_unbroken;
@@ -38,8 +37,32 @@ fn first_room(counts: &[u16]) -> Room
     }
 }
 
+// The same after a step of task `turn`. A step frees no row, so the lowest number unused is sought from where it was; if it moved the task made an object.
+fn next_room(counts: &[u16], room: Room, turn: u8) -> Room
+    requires { room.made < object_limit }
+    ensures { RoomAfter counts.now turn room.free room.made result.free result.made }
+{
+    let free = frames::unused(counts, room.free);
+    if turn == 0 {
+        return Room {
+            free,
+            made: room.made,
+        };
+    }
+    if free == room.free {
+        return Room {
+            free,
+            made: room.made,
+        };
+    }
+    Room {
+        free,
+        made: room.made + 1,
+    }
+}
+
 // Up to n steps of a store that is not broken: a step leaves it so, and it isn't tested again. Nor are the report's objects counted again. After a step those that
-// touch their frame alone, a field, a call or a new object that is remembered, and returns, are done at once, one after another.
+// touch their frame alone, or a field that is remembered, are done at once, one after another.
 fn steps(
     counts: &mut [u16],
     classes: &[u16],
@@ -74,25 +97,17 @@ fn steps(
         }
         room = next_room(counts, room, turn);
         k += 1;
-        let more = go_far(
+        let more = go_ahead(
             tags,
             facts,
             counts,
             classes,
             kept,
-            cache,
-            ties,
-            subtypes,
             objects,
             frames,
             opcodes,
-            room,
             n - k,
         );
-        room = Room {
-            free: more.free,
-            made: more.made,
-        };
         last = last_of(counts, more.steps, a);
         k += more.steps;
         stop = more.stop;
@@ -165,8 +180,8 @@ fn steps_allowed(
             n,
         );
     }
-    let mut tags = [0u32; 1024];
-    let mut facts = [0u32; 1024];
+    let mut tags = [0u32; 512];
+    let mut facts = [0u32; 512];
     steps(
         counts, classes, kept, cache, ties, subtypes, objects, frames, &opcodes, &mut tags,
         &mut facts, n,

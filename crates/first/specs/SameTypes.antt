@@ -79,6 +79,7 @@ unfolding first_types_in types_in
 same-types k m old e q = rw (same-entry k m e.1, e.0, same-types-at k.version m.code m.signature.result old q (length m.code) 0 (entry_types k m)) (unfold flow_into map_at ◌>>=◌ in refl)
 
 old-at : (ms : List Method) → All OldMethod ms → (m : Method) → Memᴰ m ms → OldMethod m
+old-at [] h m never = elim never [ ]
 old-at (x ∷ ms) h m (Memᴰ.head z) = rw z h.0
 old-at (x ∷ ms) h m (Memᴰ.tail t) = old-at ms h.1 m t
 

@@ -3,7 +3,7 @@ use Rattle.std.specs.Prelude.{◌≡◌, refl, Bool, true, false, ℕ}
 use Rattle.std.proofs.Common.{sym, ap, ◌∙◌}
 use Rattle.std.proofs.Math.Option.{Option, some, some-injective}
 use mathlib.Core.List.Memᴰ
-use mathlib.Core.List.{List, ◌∷◌, Memᴰ}
+use mathlib.Core.List.{List, [], ◌∷◌, Memᴰ}
 use Rattle.definition.specs.Classes.{find, super_of}
 use Rattle.definition.specs.Constraints.{Agrees, Tie, World, edges, subtype_edges, tie_edges}
 use Rattle.definition.specs.Chains.{Chain, Edge, stay}
@@ -42,6 +42,7 @@ Tied w a b = Chain (tie_edges w.ties) a b
 
 pub tie-turned : (ts : List Tie) (e : Edge Request) → Memᴰ e (tie_edges ts) → Memᴰ (turned e) (tie_edges ts)
 unfolding tie_edges
+tie-turned [] e never = elim never [ ]
 tie-turned (t ∷ ts) e (Memᴰ.head q) = Memᴰ.tail (Memᴰ.head (ap turned q))
 tie-turned (t ∷ ts) e (Memᴰ.tail (Memᴰ.head q)) = Memᴰ.head (ap turned q)
 tie-turned (t ∷ ts) e (Memᴰ.tail (Memᴰ.tail m)) = Memᴰ.tail (Memᴰ.tail (tie-turned ts e m))

@@ -37,6 +37,7 @@ SubThere ss l n = Memᴰ (record { from = at l n.low; to = at l n.high }) (subty
 
 sub-edge : (ss : List Subtype) (l : ℕ) (n : Note) → Memᴰ (subtype_of l n) ss → SubThere ss l n
 unfolding subtype_edges
+sub-edge [] l n never = elim never [ ]
 sub-edge (s ∷ ss) l n (Memᴰ.head e) = Memᴰ.head (ap (λ (z : Subtype). record { from = at z.loader z.low; to = at z.loader z.high }) e)
 sub-edge (s ∷ ss) l n (Memᴰ.tail m) = Memᴰ.tail (sub-edge ss l n m)
 
@@ -52,6 +53,7 @@ subs-wider ss rs l n m = rw (sub-edges-more ss rs) (Memᴰ.append_left (subtype_
 
 subs-there : (ss : List Subtype) (l : ℕ) (ns : List Note) (n : Note) → Memᴰ n ns → SubThere (ss ++ new_subtypes ss l ns) l n
 unfolding new_subtypes
+subs-there ss l [] n never = elim never [ ]
 subs-there ss l (x ∷ ns) n m = go (any (subtype_is l x) ss) refl m (λ rs k. subs-there rs l ns n k)
   where
     New : Bool → List Subtype
@@ -76,6 +78,7 @@ over-wider b l p ts us m o y t h i z = rw (tie-edges-more ts us) (chain_more (λ
 
 over-there : (b : Base) (l p : ℕ) (ts : List Tie) (ms : List Method) (m : Method) → Memᴰ m ms → OverThere b l p (ts ++ override_ties b l p ts ms) m
 unfolding override_ties
+over-there b l p ts [] m never = elim never [ ]
 over-there b l p ts (x ∷ ms) m (Memᴰ.head q) = rw q (rw append_assoc at (over-wider b l p (ts ++ override_tie b l p ts x.signature) (override_ties b l p (ts ++ override_tie b l p ts x.signature) ms) x (over-one b l p ts x)))
 over-there b l p ts (x ∷ ms) m (Memᴰ.tail k) = rw append_assoc at (over-there b l p (ts ++ override_tie b l p ts x.signature) ms m k)
 

@@ -96,6 +96,7 @@ carry w os l m n v t h = go (eqb n 1) refl v h
 
 tie-edge : (ts : List Tie) (t : Tie) → Memᴰ t ts → Memᴰ (record { from = at t.one t.name; to = at t.two t.name }) (tie_edges ts)
 unfolding tie_edges
+tie-edge [] t never = elim never [ ]
 tie-edge (u ∷ ts) t (Memᴰ.head e) = Memᴰ.head (ap (λ (z : Tie). record { from = at z.one z.name; to = at z.two z.name }) e)
 tie-edge (u ∷ ts) t (Memᴰ.tail m) = Memᴰ.tail (Memᴰ.tail (tie-edge ts t m))
 
@@ -129,6 +130,7 @@ tie_there ts l m n h = go (eqb l m || eqb n 1 || any (tie_is l m n) ts) refl
 -- of names in turn, each is tied
 pub ties-there : (ts : List Tie) (l m : ℕ) (ns : List ℕ) (n : ℕ) → Memᴰ n ns → n ≢ 1 → Chain (tie_edges (ts ++ new_ties ts l m ns)) (at l n) (at m n)
 unfolding new_ties
+ties-there ts l m [] n never h = elim never [ ]
 ties-there ts l m (x ∷ ns) n (Memᴰ.head q) h =
     let us = new_tie ts l m x in
     let vs = new_ties (ts ++ us) l m ns in

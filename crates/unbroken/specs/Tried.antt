@@ -43,6 +43,7 @@ use Rattle.unbroken.specs.First.{zero_number, first-applies}
 -- Numbers in turn are distinct
 
 rises-past : (k : ℕ) (xs : List ℕ) → RisesFrom k xs → (i : ℕ) → Memᴰ i xs → k ≤ i
+rises-past k [] h i never = elim never [ ]
 rises-past k (x ∷ xs) h i (Memᴰ.head e) = omega (arith, h.0, e)
 rises-past k (x ∷ xs) h i (Memᴰ.tail m) = omega (arith, h.0, rises-past (suc x) xs h.1 i m)
 

@@ -37,9 +37,10 @@ use Rattle.laws.specs.Wrapped.{Ok, then}
 
 -- Lists
 
-pub all-mem : {A : Type 0} (P : A → Type 0) {xs : List A} {x : A} → All P xs → Memᴰ x xs → P x
-all-mem P {xs = y ∷ ys} {x} h (Memᴰ.head e) = rw e h.0
-all-mem P {xs = y ∷ ys} {x} h (Memᴰ.tail m) = all-mem P h.1 m
+pub all-mem : {A : Type 0} (P : A → Type 0) {x : A} {xs : List A} → All P xs → Memᴰ x xs → P x
+all-mem {A = A} P {x = x} {xs = []} h never = elim never [ ]
+all-mem P {x} {xs = y ∷ ys} h (Memᴰ.head e) = rw e h.0
+all-mem P {x} {xs = y ∷ ys} h (Memᴰ.tail m) = all-mem P h.1 m
 
 pub nth-there : {A : Type 0} (xs : List A) (i : ℕ) → i < length xs → (x : A) × (get_elem? xs i ≡ some x)
 nth-there [] i h = absurd (omega arith)

@@ -1,6 +1,7 @@
 // The walk over a method's code, which posts its notes as it goes.
-ghost use Rattle.std.specs.Prelude.{◌≡◌, length, leb, ℕ};
+ghost use Rattle.std.specs.Prelude.{◌≡◌, List, length, leb, ℕ};
 ghost use Rattle.definition.specs.Verifier.{maps_past};
+ghost use Rattle.definition.specs.Classes.{Map};
 ghost use Rattle.classfile.specs.Reading.{maps_of};
 ghost use Rattle.rows.specs.Posting.{noted};
 ghost use Rattle.verifier.specs.Lookups.{Indexed};
@@ -25,7 +26,7 @@ pub enum Passed {
 // The maps from number i on, the first at that place, which lie at point p or behind it.
 pub(crate) fn pass(maps: &[u8], i: u8, place: u32, p: usize) -> Passed
     requires { PlaceOf maps.now i place }
-    ensures* { λ r. ⌜ ((version : ℕ) (code : _) (all : _) (result : ℕ) → Passes maps.now r (maps_past version code all result p (left_from maps.now i))) ⌝ }
+    ensures { (version : ℕ) (code : List ℕ) (all : List Map) (given : ℕ) → Passes maps.now result (maps_past version code all given p (left_from maps.now i)) }
 {
     if classfile::map_count(maps) <= i {
         return Passed::To(i, place);

@@ -13,7 +13,7 @@ use definition::numbers::VERSION_TWO;
 // The code is read up to the first instruction that can't be.
 fn is_code_unmapped(version: u8, code: &[u8], maps: &[u8], places: &[u32]) -> bool
     requires { Indexed maps.now places.now }
-    ensures* { λ r. ⌜ ((result : ℕ) → r ≡ unmapped_from version code.now (maps_of maps.now) result (length code.now) 0 false) ⌝ }
+    ensures { (given : ℕ) → result ≡ unmapped_from version code.now (maps_of maps.now) given (length code.now) 0 false }
 {
     let mut left = code.len();
     let mut p: usize = 0;
@@ -34,7 +34,7 @@ fn is_code_unmapped(version: u8, code: &[u8], maps: &[u8], places: &[u32]) -> bo
 
 // Version 1 has no maps, and lacks none.
 pub fn is_unmapped(version: u8, code: &[u8], maps: &[u8]) -> bool
-    ensures* { λ r. ⌜ ((result : ℕ) → r ≡ (leb 2 version && unmapped_from version code.now (maps_of maps.now) result (length code.now) 0 false)) ⌝ }
+    ensures { (given : ℕ) → result ≡ (leb 2 version && unmapped_from version code.now (maps_of maps.now) given (length code.now) 0 false) }
 {
     if version < VERSION_TWO {
         return false;

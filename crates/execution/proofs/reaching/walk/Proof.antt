@@ -6,7 +6,7 @@ use lib.ListN.{length}
 use borrow.Author.Tests.{not-true, not-false}
 use Rattle.execution.specs.Opcodes.{Numbers}
 use Rattle.execution.specs.Plain.{At}
-use Rattle.execution.specs.Reaches.{Walked, here, stops-unknown, walk_more, walk-stops, walk-stands}
+use Rattle.execution.specs.Reaches.{Walked, here, walk_more, walk-stops}
 use borrow.Author.Rules.{rules}
 use Rattle.execution.proofs.reaching.walk.Statement.{statement}
 use Rattle.execution.proofs.reaching.walk.Tie as tie
@@ -28,22 +28,19 @@ same-length-2 : tie.Need-same-length-2 invariant-loop decreases-loop
 same-length-2 c = c.before.before.before.loop.invariant.1.3 ∙ sym c.before.before.before.before.before.before.before.before.before.before.before.before.before.before.before.requires.0
 
 returns : tie.Need-returns invariant-loop decreases-loop
-returns c = (c.before.before.before.loop.invariant.0, c.before.before.before.loop.invariant.2, stops-unknown _ _ _)
+returns c = (c.before.before.before.loop.invariant.0, c.before.before.before.loop.invariant.2)
 
 reach-requires : tie.Need-reach-requires invariant-loop decreases-loop
 reach-requires c κs = (c.before.before.before.before.before.before.before.before.before.before.before.before.before.before.before.before.before.before.before.before.requires.3, (omega (arith, c.before.before.before.before.before.if1.false, c.before.before.before.before.before.before.wide32.ensures.0), c.before.before.before.before.before.before.before.before.before.before.before.before.before.before.before.before.before.before.before.before.requires.2), c.before.before.before.before.before.before.before.before.loop.invariant.1.2)
 
-arguments-at-requires : tie.Need-arguments-at-requires invariant-loop decreases-loop
-arguments-at-requires c κs = omega (arith, c.before.before.before.before.before.before.before.before.before.before.before.before.if1.false, c.before.before.before.before.before.before.before.before.before.before.before.before.before.before.before.before.before.before.before.before.before.before.before.before.before.before.before.requires.2)
-
 same-length-3 : tie.Need-same-length-3 invariant-loop decreases-loop
-same-length-3 c = c.before.before.before.before.before.before.before.reach.auto.1.1.1.0 ∙ c.before.before.before.before.before.before.before.before.before.before.before.before.before.before.before.before.loop.invariant.3
+same-length-3 c = c.before.before.before.before.before.before.reach.auto.1.1.1.0 ∙ c.before.before.before.before.before.before.before.before.before.before.before.before.before.before.before.loop.invariant.3
 
 same-length-4 : tie.Need-same-length-4 invariant-loop decreases-loop
-same-length-4 c = c.before.before.before.before.before.before.before.reach.auto.1.1.1.1.0 ∙ (c.before.before.before.before.before.before.before.before.before.before.before.before.before.before.before.before.loop.invariant.1.3 ∙ sym c.before.before.before.before.before.before.before.before.before.before.before.before.before.before.before.before.before.before.before.before.before.before.before.before.before.before.before.before.requires.0)
+same-length-4 c = c.before.before.before.before.before.before.reach.auto.1.1.1.1.0 ∙ (c.before.before.before.before.before.before.before.before.before.before.before.before.before.before.before.loop.invariant.1.3 ∙ sym c.before.before.before.before.before.before.before.before.before.before.before.before.before.before.before.before.before.before.before.before.before.before.before.before.before.before.before.requires.0)
 
 returns-2 : tie.Need-returns-2 invariant-loop decreases-loop
-returns-2 c = (walk-stops _ _ _ _ _ _ _ _ _ _ _ _ _ _ _ _ c.before.before.before.before.before.before.before.before.before.before.before.before.before.before.before.before.loop.invariant.0 _ c.before.before.before.before.before.before.before.reach.ensures _ _ _ c.before.before.before.before.before.before.before.before.before.before.before.before.before.before.wide32.ensures.0 c.before.before.before.before.before.before.before.before.before.before.before.before.at8.ensures (search rules) c.before.before.before.before.before.before.before.before.before.before.before.wide8.ensures.0 c.before.before.before.before.before.before.before.before.before.before.at82.ensures (not-true _ c.before.if2.true), c.before.before.before.before.before.before.before.before.before.before.before.before.before.before.before.before.loop.invariant.2, walk-stands _ _ _ _ _ _ _ _ _ _ _ _ _ _ _ _ c.before.before.before.before.before.before.before.before.before.before.before.before.before.before.before.before.loop.invariant.0 _ c.before.before.before.before.before.before.before.reach.ensures _ _ _ c.before.before.before.before.before.before.before.before.before.before.before.before.before.before.wide32.ensures.0 c.before.before.before.before.before.before.before.before.before.before.before.before.at8.ensures (search rules) c.before.before.before.before.before.before.before.before.before.before.before.wide8.ensures.0 c.before.before.before.before.before.before.before.before.before.before.at82.ensures c.before.before.before.before.before.before.before.before.before.before.before.before.before.before.before.before.before.before.before.before.before.before.before.before.before.before.before.before.requires.4 c.before.before.before.before.before.before.before.before.before.before.before.before.before.before.before.before.loop.invariant.1 (omega (arith, c.before.before.before.before.before.before.before.before.before.before.before.before.before.if1.false, c.before.before.before.before.before.before.before.before.before.before.before.before.before.before.wide32.ensures.0)) (not-true _ c.before.if2.true))
+returns-2 c = (walk-stops _ _ _ _ _ _ _ _ _ _ _ _ _ _ _ _ c.before.before.before.before.before.before.before.before.before.before.before.before.before.before.before.loop.invariant.0 _ c.before.before.before.before.before.before.reach.ensures _ _ _ c.before.before.before.before.before.before.before.before.before.before.before.before.before.wide32.ensures.0 c.before.before.before.before.before.before.before.before.before.before.before.at8.ensures (search rules) c.before.before.before.before.before.before.before.before.before.before.wide8.ensures.0 c.before.before.before.before.before.before.before.before.before.at82.ensures (not-true _ c.if2.true), c.before.before.before.before.before.before.before.before.before.before.before.before.before.before.before.loop.invariant.2)
 
 add-k : tie.Need-overflow-add-k invariant-loop decreases-loop
 add-k c = omega (arith, c.before.before.before.before.before.before.before.before.before.before.before.before.before.before.loop-test.true, c.before.before.before.before.before.before.before.before.before.before.before.before.before.before.before.before.before.before.before.before.before.before.before.before.before.before.before.ranges.most)
@@ -61,7 +58,7 @@ same-length-6 : tie.Need-same-length-6 invariant-loop decreases-loop
 same-length-6 c = c.before.loop.invariant.1.3 ∙ sym c.before.before.before.before.before.before.before.before.before.before.before.before.before.requires.0
 
 returns-3 : tie.Need-returns-3 invariant-loop decreases-loop
-returns-3 c = (c.before.loop.invariant.0, c.before.loop.invariant.2, stops-unknown _ _ _)
+returns-3 c = (c.before.loop.invariant.0, c.before.loop.invariant.2)
 
 pub walk-spec : {M : Type 1} → statement M
 walk-spec =
@@ -80,7 +77,6 @@ walk-spec =
     (λ c κs. search rules)
     (λ c κs. search rules)
     reach-requires
-    arguments-at-requires
     same-length-3
     same-length-4
     returns-2

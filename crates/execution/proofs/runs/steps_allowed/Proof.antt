@@ -16,14 +16,14 @@ returns c = run-stops _ _ _ _ _ _ (turn-idle _ _ _ _ _ _ _ _ c.before.before.bef
 
 steps-requires : tie.Need-steps-requires
 unfolding numbers rows number_at version_at opcode_of pick
-steps-requires c κs = (c.before.before.before.before.before.before.before.before.before.before.before.before.before.before.before.before.before.before.before.before.requires.0, refl, none-noted _ _ _ _ _ 1 1)
+steps-requires c κs = (c.before.before.before.before.before.before.before.before.before.before.before.before.before.before.before.before.before.before.before.before.requires.0, refl, none-noted _ _ _ _ _ _ 1)
 
 returns-2 : tie.Need-returns-2
 returns-2 c = c.before.before.before.before.before.before.before.before.before.before.steps.ensures
 
 steps-requires-2 : tie.Need-steps-requires-2
 unfolding numbers rows number_at version_at opcode_of pick
-steps-requires-2 c κs = (c.before.before.before.before.before.before.before.before.before.before.before.before.before.before.before.before.before.before.before.before.requires.0, refl, none-noted _ _ _ _ _ 1024 1024)
+steps-requires-2 c κs = (c.before.before.before.before.before.before.before.before.before.before.before.before.before.before.before.before.before.before.before.before.requires.0, refl, none-noted _ _ _ _ _ _ 512)
 
 returns-3 : tie.Need-returns-3
 returns-3 c = c.before.before.before.before.before.before.before.before.before.before.steps2.ensures

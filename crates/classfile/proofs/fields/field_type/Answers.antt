@@ -1,0 +1,8 @@
+-- The type begins two bytes after the field's place.
+use Rattle.classfile.specs.Reading.{field_in}
+use borrow.Author.Rules.{rules}
+use Rattle.classfile.proofs.fields.field_type.Goals as goal
+
+pub returns : goal.returns
+unfolding field_in
+returns c = rw (← c.field_place.ensures.0) c.short_at.ensures

@@ -1,0 +1,28 @@
+-- The fields are searched from the first on. Before field i is compared, the search from field i on finds what the whole search finds.
+use Prim.Native.Nat.{◌-◌, ◌≤◌}
+use mathlib.Core.Path.{◌≡◌, sym, ap, ◌∙◌}
+use native.Mathlib.Omega.{arith}
+use Rattle.definition.specs.Lists.{index_of, rows}
+use Rattle.classfile.specs.Lists.{shift, find-here, find-later, find-end, find-start}
+use Rattle.classfile.specs.Reading.{field_in, quick_fields, field_is, field_found}
+use borrow.Author.Rules.{rules}
+use Rattle.classfile.proofs.fields.find_field.Goals as goal
+
+pub loop-i-init : goal.loop-i-init
+unfolding quick_fields
+loop-i-init c = (omega arith, rw c.field_count-n.ensures (find-start _ _ _))
+
+pub returns-then-is_field : goal.returns-then-is_field
+unfolding field_found
+returns-then-is_field c =
+    let found = sym c.is_field.ensures ∙ c.if-is_field.true in
+    ap field_found (sym (find-here _ _ _ _ c.loop-i-test.true found) ∙ c.loop-i.invariant.1)
+
+pub loop-i-preserved : goal.loop-i-preserved
+loop-i-preserved c =
+    let other = sym c.is_field.ensures ∙ c.if-is_field.false in
+    (omega arith, sym (find-later _ _ _ _ c.loop-i-test.true other) ∙ c.loop-i.invariant.1)
+
+pub returns : goal.returns
+unfolding field_found
+returns c = ap field_found (sym (find-end _ _ _ _ c.loop-i-test.false) ∙ c.loop-i.invariant.1)

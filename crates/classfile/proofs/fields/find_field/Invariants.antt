@@ -1,0 +1,16 @@
+use Prim.Native.Nat.{◌-◌, ◌≤◌}
+use mathlib.Core.Path.{◌≡◌, sym, ap, ◌∙◌}
+use native.Mathlib.Omega.{arith}
+use Rattle.definition.specs.Lists.{index_of, rows}
+use Rattle.classfile.specs.Lists.{shift, find-here, find-later, find-end, find-start}
+use Rattle.classfile.specs.Reading.{field_in, quick_fields, field_is, field_found}
+use borrow.Author.Rules.{rules}
+use Rattle.classfile.proofs.fields.find_field.Given as goal
+
+abbrev pub invariant-loop-i : goal.invariant-loop-i
+invariant-loop-i l =
+    (l.i ≤ l.n)
+    × (shift l.i (index_of (field_is l.name l.type_name) (rows (field_in l.bytes) (l.n - l.i) l.i)) ≡ index_of (field_is l.name l.type_name) (quick_fields l.bytes))
+
+abbrev pub decreases-loop-i : goal.decreases-loop-i
+decreases-loop-i l = l.n - l.i

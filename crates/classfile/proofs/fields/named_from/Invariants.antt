@@ -1,0 +1,15 @@
+use Prim.Native.Nat.{◌-◌}
+use mathlib.Core.Path.{◌≡◌, sym, ◌∙◌}
+use borrow.Author.Tests.{eq-eqb, ne_eqb}
+use Rattle.definition.specs.Lists.{any, rows}
+use Rattle.layout.specs.Places.{any-hit, any-on, any-end}
+use Rattle.classfile.specs.Reading.{field_count, field_in, field_named}
+use borrow.Author.Rules.{rules}
+use Rattle.classfile.proofs.fields.named_from.Given as goal
+
+abbrev pub invariant-loop-i : goal.invariant-loop-i
+invariant-loop-i l =
+    any (field_named l.name) (rows (field_in l.bytes) (l.n - l.i) l.i) ≡ any (field_named l.name) (rows (field_in l.bytes) (field_count l.bytes - l.first) l.first)
+
+abbrev pub decreases-loop-i : goal.decreases-loop-i
+decreases-loop-i l = l.n - l.i

@@ -1,0 +1,8 @@
+-- The operand count stands after the offset and the local types.
+use Rattle.classfile.specs.Reading.{map_depth}
+use borrow.Author.Rules.{rules}
+use Rattle.classfile.proofs.maps.map_depth.Goals as goal
+
+pub returns : goal.returns
+unfolding map_depth
+returns c = rw (← c.wide32.ensures.0) c.at8.ensures

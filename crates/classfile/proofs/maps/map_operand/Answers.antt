@@ -1,0 +1,8 @@
+-- The operand types stand after their count.
+use Rattle.classfile.specs.Reading.{type_at}
+use borrow.Author.Rules.{rules}
+use Rattle.classfile.proofs.maps.map_operand.Goals as goal
+
+pub returns : goal.returns
+unfolding type_at
+returns c = rw (← c.wide32.ensures.0, ← c.wide8.ensures.0) c.short_at.ensures

@@ -1,0 +1,19 @@
+use Prim.Native.Nat.{◌-◌}
+use mathlib.Core.Path.{◌≡◌, sym, ap, ◌∙◌}
+use Rattle.definition.specs.Lists.{index_of, rows}
+use Rattle.definition.specs.Classes.{alike}
+use Rattle.classfile.specs.Lists.{shift, find-here, find-later, find-end}
+use Rattle.classfile.proofs.Laws.{placed-next}
+use Rattle.classfile.specs.Reading.{method_count, method_in, method_found, Placed}
+use Rattle.classfile.specs.declared.MethodFound.{MethodFound}
+use borrow.Author.Rules.{rules}
+use Rattle.classfile.proofs.methods.alike_from.Given as goal
+
+abbrev pub invariant-loop-j : goal.invariant-loop-j
+invariant-loop-j l =
+    Placed l.bytes l.j l.place
+    × (shift l.j (index_of (alike l.s) (rows (method_in l.bytes) (l.n - l.j) l.j))
+    ≡ shift l.first (index_of (alike l.s) (rows (method_in l.bytes) (method_count l.bytes - l.first) l.first)))
+
+abbrev pub decreases-loop-j : goal.decreases-loop-j
+decreases-loop-j l = l.n - l.j

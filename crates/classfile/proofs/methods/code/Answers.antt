@@ -1,0 +1,13 @@
+-- Both ends of the part are clipped where the bytes end.
+use Rattle.classfile.proofs.Laws.{clipped}
+use Rattle.classfile.specs.Reading.{code_at, code_place, code_length}
+use borrow.Author.Rules.{rules}
+use Rattle.classfile.proofs.methods.code.Goals as goal
+
+pub returns : goal.returns
+unfolding code_at
+returns c =
+    let bytes = c.args.bytes.now in
+    let place = c.args.place in
+    rw (c.least-end.ensures, c.least-start.ensures, c.wide16.ensures.0, c.code_length.ensures, c.code_place.ensures.0)
+    (clipped bytes (code_place bytes place) (code_length bytes place))

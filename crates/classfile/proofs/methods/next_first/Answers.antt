@@ -1,0 +1,16 @@
+-- Eight bytes before the code, the last two of them its length, and no maps after it.
+use mathlib.Core.Path.{◌≡◌, ap, ◌∙◌}
+use Prim.Native.Nat.{◌+◌}
+use native.Mathlib.Omega.{arith}
+use Rattle.definition.specs.Instructions.{short_at}
+use Rattle.classfile.proofs.Laws.{next-first}
+use borrow.Author.Rules.{rules}
+use Rattle.classfile.proofs.methods.next_first.Goals as goal
+
+pub returns : goal.returns
+returns c =
+    let bytes = c.args.bytes.now in
+    let at : c.wide32.result + 6 ≡ c.args.place + 6 = omega (arith, c.wide32.ensures.0) in
+    let l : c.short_at.result ≡ short_at bytes (c.args.place + 6) = c.short_at.ensures ∙ ap (short_at bytes) at in
+    let n = next-first bytes c.args.place c.requires.0 in
+    (omega (arith, l, n, c.from16.ensures.0), omega (arith, c.from16.ensures.1))

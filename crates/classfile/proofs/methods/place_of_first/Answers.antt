@@ -1,0 +1,13 @@
+-- Before record i is passed, its place is known.
+use Prim.Native.Nat.{◌-◌, ◌≤◌}
+use native.Mathlib.Omega.{arith}
+use Rattle.classfile.proofs.Laws.{placed-next, placed_at}
+use Rattle.classfile.specs.Reading.{Placed}
+use borrow.Author.Rules.{rules}
+use Rattle.classfile.proofs.methods.place_of_first.Goals as goal
+
+pub loop-i-preserved : goal.loop-i-preserved
+loop-i-preserved c = (omega arith, placed-next _ _ _ _ c.loop-i.invariant.1 c.next_first-place.ensures.0 c.next_first-place.ensures.1)
+
+pub returns : goal.returns
+returns c = placed_at _ _ _ _ c.loop-i.invariant.1 (omega arith)

@@ -1,0 +1,8 @@
+-- The count stands two bytes after the record's place.
+use Rattle.classfile.specs.Reading.{argument_number}
+use borrow.Author.Rules.{rules}
+use Rattle.classfile.proofs.signatures.argument_number.Goals as goal
+
+pub returns : goal.returns
+unfolding argument_number
+returns c = rw (← c.wide32.ensures.0) c.at8.ensures

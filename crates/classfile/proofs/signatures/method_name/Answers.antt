@@ -1,0 +1,8 @@
+-- The name begins at the record's place.
+use Rattle.classfile.specs.Reading.{quick_signature, method_at}
+use borrow.Author.Rules.{rules}
+use Rattle.classfile.proofs.signatures.method_name.Goals as goal
+
+pub returns : goal.returns
+unfolding method_at quick_signature
+returns c = rw (← c.wide32.ensures.0) c.short_at.ensures

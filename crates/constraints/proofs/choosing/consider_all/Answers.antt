@@ -1,0 +1,29 @@
+-- What is left to be considered makes what all of it does.
+use mathlib.Core.Path.{sym, ◌∙◌}
+use native.Mathlib.Omega.{arith}
+use Rattle.constraints.proofs.Choices.{left-start, left_here, left-past, left-none}
+use Rattle.constraints.proofs.choosing.consider_all.Goals as goal
+use Rattle.constraints.proofs.choosing.consider_all.Goals.{then-at16-c, else-at16-c}
+
+pub loop-q-init : goal.loop-q-init
+loop-q-init c = (omega arith, c.requires.0, left-start _ _ _ _ _ _ _ _)
+
+pub consider-kept-requires : goal.consider-kept-requires
+consider-kept-requires c = (c.loop-q.invariant.1, c.requires.1 c.loop-q.q)
+
+pub loop-q-preserved : goal.loop-q-preserved
+loop-q-preserved c =
+    let loop = c.loop-q in
+    let test = c.loop-q-test in
+    elim c.if-at16-c.branch [
+      | then-at16-c w ↦ rw (w.best-is, w.kept-is)
+          (omega arith, w.consider-kept.ensures.0, rw w.consider-kept.ensures.1 (sym (left_here _ _ _ _ _ _ _ _ _ test.true (sym c.at16.ensures ∙ w.if-at16-c.true)) ∙ loop.invariant.2))
+      | else-at16-c w ↦ rw (w.best-is, w.kept-is)
+          (omega arith, loop.invariant.1, sym (left-past _ _ _ _ _ _ _ _ _ test.true (λ e. w.if-at16-c.false (c.at16.ensures ∙ e))) ∙ loop.invariant.2)
+    ]
+
+pub shape_of-best : goal.shape_of-best
+shape_of-best c = c.loop-q.invariant.1.long ∙ sym c.requires.0.long
+
+pub returns : goal.returns
+returns c = (c.loop-q.invariant.1, sym (left-none _ _ _ _ _ _ _ _ _ c.loop-q-test.false) ∙ c.loop-q.invariant.2)

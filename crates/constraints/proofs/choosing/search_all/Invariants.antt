@@ -1,0 +1,20 @@
+use Prim.Native.Nat.{◌-◌, ◌≤◌}
+use mathlib.Core.Path.{◌≡◌}
+use lib.ListN.{length}
+use Rattle.constraints.specs.Agreement.{super_in}
+use Rattle.constraints.specs.Choosing.{held, Holds}
+use Rattle.constraints.specs.Search.{Stamped}
+use Rattle.constraints.proofs.Choices.{Met, Swept}
+use Rattle.constraints.proofs.choosing.search_all.Given as goal
+
+abbrev pub invariant-loop-p : goal.invariant-loop-p
+invariant-loop-p l =
+    (l.p ≤ l.cached)
+    × Holds l.best l.kept
+    × Stamped 256 l.p l.aboves
+    × Met l.classes l.p l.met
+    × (length l.met ≡ 256)
+    × Swept l.froms l.tos l.labels l.count l.classes l.cached l.only (super_in l.supers) l.p (held l.initial.best l.size) (held l.best l.kept)
+
+abbrev pub decreases-loop-p : goal.decreases-loop-p
+decreases-loop-p l = l.cached - l.p

@@ -1,0 +1,8 @@
+-- The cell is read before it is set.
+use Prim.Native.Nat.{ℕ}
+use mathlib.Core.Path.{ap}
+use lib.Dec.{eqb}
+use Rattle.constraints.proofs.choosing.was_met.Goals as goal
+
+pub returns : goal.returns
+returns c = (ap (λ (x : ℕ). eqb x 1) c.at16-before.ensures, c.put16.ensures)

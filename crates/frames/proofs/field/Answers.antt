@@ -1,0 +1,8 @@
+-- A field is read from its two cells in the object's row.
+use borrow.Author.Rules.{rules}
+use Rattle.definition.specs.Tables.{field_at}
+use Rattle.frames.proofs.field.Goals as goal
+
+pub returns : goal.returns
+unfolding field_at
+returns c = rw (← c.wide32.ensures.0, ← c.wide8.ensures.0) c.pair.ensures

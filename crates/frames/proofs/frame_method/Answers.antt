@@ -1,0 +1,6 @@
+-- The place of a frame's method in its class is the second cell of its row.
+use borrow.Author.Rules.{rules}
+use Rattle.frames.proofs.frame_method.Goals as goal
+
+pub returns : goal.returns
+returns c = rw (← c.wide32.ensures.0) c.at32.ensures

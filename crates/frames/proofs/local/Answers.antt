@@ -1,0 +1,8 @@
+-- A local is read from its two cells in the frame's row.
+use borrow.Author.Rules.{rules}
+use Rattle.definition.specs.Tables.{local_at}
+use Rattle.frames.proofs.local.Goals as goal
+
+pub returns : goal.returns
+unfolding local_at
+returns c = rw (← c.wide32.ensures.0, ← c.wide8.ensures.0) c.pair.ensures

@@ -1,0 +1,6 @@
+-- An object's class is the first cell of its row.
+use borrow.Author.Rules.{rules}
+use Rattle.frames.proofs.object_class.Goals as goal
+
+pub returns : goal.returns
+returns c = rw (← c.wide32.ensures.0) c.at32.ensures

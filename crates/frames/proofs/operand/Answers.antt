@@ -1,0 +1,8 @@
+-- An operand, counted from the lowest, is read from its two cells in the frame's row.
+use borrow.Author.Rules.{rules}
+use Rattle.definition.specs.Tables.{operand_at}
+use Rattle.frames.proofs.operand.Goals as goal
+
+pub returns : goal.returns
+unfolding operand_at
+returns c = rw (← c.wide32.ensures.0, ← c.wide32-2.ensures.0) c.pair.ensures

@@ -1,0 +1,14 @@
+-- A number is used just if it is below the object count and its row has an owner.
+use borrow.Author.Rules.{rules}
+use borrow.Author.Tests.{lt-ltb, le-ltb}
+use Rattle.definition.specs.Instructions.{pick}
+use Rattle.frames.specs.Unused.{is_used}
+use Rattle.frames.proofs.owners.is_used.Goals as goal
+
+pub returns-then-o-from16 : goal.returns-then-o-from16
+unfolding is_used pick
+returns-then-o-from16 c = rw (lt-ltb _ _ (rw (c.from16.ensures.0, c.at16.ensures) at c.if-o-from16.true), c.owner.ensures)
+
+pub returns-else-o-from16 : goal.returns-else-o-from16
+unfolding is_used pick
+returns-else-o-from16 c = rw (le-ltb _ _ (rw (c.from16.ensures.0, c.at16.ensures) at c.if-o-from16.false))

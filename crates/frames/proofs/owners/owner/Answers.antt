@@ -1,0 +1,8 @@
+-- A row's owner is read behind the counts.
+use borrow.Author.Rules.{rules}
+use Rattle.definition.specs.Tables.{owner_at}
+use Rattle.frames.proofs.owners.owner.Goals as goal
+
+pub returns : goal.returns
+unfolding owner_at
+returns c = rw (← c.wide32.ensures.0) c.at16.ensures

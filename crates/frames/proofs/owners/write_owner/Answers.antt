@@ -1,0 +1,6 @@
+-- A row's owner is written, and no other cell.
+use borrow.Author.Rules.{rules}
+use Rattle.frames.proofs.owners.write_owner.Goals as goal
+
+pub returns : goal.returns
+returns c = rw (c.put16.ensures, c.wide32.ensures.0)

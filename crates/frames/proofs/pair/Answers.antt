@@ -1,0 +1,8 @@
+-- A value is read from two cells, its kind and then its bits; a cell past the end reads 0.
+use borrow.Author.Rules.{rules}
+use Rattle.definition.specs.Tables.{value_at}
+use Rattle.frames.proofs.pair.Goals as goal
+
+pub returns : goal.returns
+unfolding value_at
+returns c = rw (c.at32.ensures, c.at32-2.ensures)

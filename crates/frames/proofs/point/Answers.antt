@@ -1,0 +1,6 @@
+-- A frame's point is the third cell of its row.
+use borrow.Author.Rules.{rules}
+use Rattle.frames.proofs.point.Goals as goal
+
+pub returns : goal.returns
+returns c = rw (← c.wide32.ensures.0) c.at32.ensures

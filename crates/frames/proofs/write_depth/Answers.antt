@@ -1,0 +1,6 @@
+-- A frame's operand count is written, and no other cell.
+use borrow.Author.Rules.{rules}
+use Rattle.frames.proofs.write_depth.Goals as goal
+
+pub returns : goal.returns
+returns c = rw (c.put32.ensures, c.wide32.ensures.0)

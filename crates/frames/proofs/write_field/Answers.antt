@@ -1,0 +1,10 @@
+-- A field is written into its two cells in the object's row.
+use mathlib.Core.Path.{sym}
+use borrow.Author.Rules.{rules}
+use Rattle.definition.specs.Tables.{put_field}
+use Rattle.layout.specs.Cells.{put_value-cells}
+use Rattle.frames.proofs.write_field.Goals as goal
+
+pub returns : goal.returns
+unfolding put_field
+returns c = rw (c.write_pair.ensures, c.wide32.ensures.0, c.wide8.ensures.0) (sym (put_value-cells _ _ _ _))

@@ -1,0 +1,7 @@
+-- A frame's class and method are written, with point 0 and no operands.
+use borrow.Author.Rules.{rules}
+use Rattle.frames.proofs.write_head.Goals as goal
+
+pub returns : goal.returns
+returns c =
+    rw (c.write_moved.ensures, c.put32-2.ensures, c.put32.ensures, c.wide32.ensures.0, c.wide32-2.ensures.0)

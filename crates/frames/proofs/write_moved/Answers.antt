@@ -1,0 +1,6 @@
+-- A frame's point and operand count are written, and no other cell.
+use borrow.Author.Rules.{rules}
+use Rattle.frames.proofs.write_moved.Goals as goal
+
+pub returns : goal.returns
+returns c = rw (c.put32-2.ensures, c.put32.ensures, c.wide32.ensures.0, c.wide32-2.ensures.0)

@@ -1,0 +1,6 @@
+-- A value is written into two cells, its kind and then its bits; past the end nothing is written.
+use borrow.Author.Rules.{rules}
+use Rattle.frames.proofs.write_pair.Goals as goal
+
+pub returns : goal.returns
+returns c = rw (c.put32-2.ensures, c.put32.ensures)

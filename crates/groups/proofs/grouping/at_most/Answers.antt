@@ -1,0 +1,15 @@
+-- A count within the limit is itself, another is the limit.
+use mathlib.Core.Path.{refl}
+use native.Mathlib.Omega.{arith}
+use borrow.Author.Rules.{rules}
+use borrow.Author.Tests.{lt-leb, le-leb}
+use Rattle.groups.specs.Lowest.{at_most}
+use Rattle.groups.proofs.grouping.at_most.Goals as goal
+
+pub returns-then-count-le-TIE_LIMIT : goal.returns-then-count-le-TIE_LIMIT
+unfolding at_most
+returns-then-count-le-TIE_LIMIT c = (rw (le-leb _ _ c.if-count-le-TIE_LIMIT.true, at_most) c.wide16.ensures.0, omega arith)
+
+pub returns-else-count-le-TIE_LIMIT : goal.returns-else-count-le-TIE_LIMIT
+unfolding at_most
+returns-else-count-le-TIE_LIMIT c = (rw (lt-leb _ _ c.if-count-le-TIE_LIMIT.false, at_most) refl, omega arith)

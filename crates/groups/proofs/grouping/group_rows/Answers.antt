@@ -1,0 +1,16 @@
+-- No rows, a table too short for the groups, rows of which the table of ties has a part, and rows that it has.
+use Rattle.groups.proofs.Answering.{as-counted, answer-none, answer-short, answer-whole}
+use borrow.Author.Rules.{rules}
+use Rattle.groups.proofs.grouping.group_rows.Goals as goal
+
+pub returns-then-n-eq0 : goal.returns-then-n-eq0
+returns-then-n-eq0 c = answer-none _ _ c.at_most-n.ensures.0 c.if-n-eq0.true
+
+pub returns-then-roots-n : goal.returns-then-roots-n
+returns-then-roots-n c = answer-short _ _ c.at_most-n.ensures.0 c.if-roots-n.true
+
+pub returns-then-ties-n : goal.returns-then-ties-n
+returns-then-ties-n c = answer-whole _ _ c.at_most-n.ensures.0 _ c.at_most-n.ensures.1 c.copy_cells.ensures c.group_whole.ensures
+
+pub returns : goal.returns
+returns c = as-counted _ _ c.at_most-n.ensures.0 c.group_whole-2.ensures

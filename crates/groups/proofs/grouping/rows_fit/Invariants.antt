@@ -1,0 +1,16 @@
+use mathlib.Core.Path.{◌∙◌, ◌≡◌, ap, sym}
+use Prim.Native.Nat.{◌-◌, ◌≤◌}
+use native.Mathlib.Omega.{arith}
+use borrow.Author.Rules.{rules}
+use borrow.Author.Tests.{not-false, not-true}
+use Rattle.definition.specs.Broken.{tie_fits}
+use Rattle.definition.specs.Lists.{all, rows}
+use Rattle.definition.specs.Tables.{tie_at}
+use Rattle.layout.specs.Places.{rows_start, rows_end, rows-hit, rows_on}
+use Rattle.groups.proofs.grouping.rows_fit.Given as goal
+
+abbrev pub invariant-loop-i : goal.invariant-loop-i
+invariant-loop-i l = (l.i ≤ l.n) × (all tie_fits (rows (tie_at l.ties) (l.n - l.i) l.i) ≡ all tie_fits (rows (tie_at l.ties) l.n 0))
+
+abbrev pub decreases-loop-i : goal.decreases-loop-i
+decreases-loop-i l = l.n - l.i

@@ -1,0 +1,13 @@
+use mathlib.Core.Path.{◌≡◌, refl, sym, ◌∙◌}
+use Prim.Native.Nat.{ℕ, ◌-◌, ◌<◌, ◌≤◌}
+use native.Mathlib.Omega.{arith}
+use Rattle.groups.specs.Firsts.{name_in}
+use Rattle.groups.proofs.Filling.{none_yet}
+use borrow.Author.Rules.{rules}
+use Rattle.groups.proofs.names.first_named.Given as goal
+
+abbrev pub invariant-loop-q : goal.invariant-loop-q
+invariant-loop-q l = (l.q ≤ l.p) × ((i : ℕ) → i < l.q → name_in l.ties i ≡ name_in l.ties l.p → ⊥)
+
+abbrev pub decreases-loop-q : goal.decreases-loop-q
+decreases-loop-q l = l.p - l.q

@@ -1,0 +1,12 @@
+-- A row before p stands there, or p is written.
+use mathlib.Core.Path.{◌≡◌, refl, sym, ap, ◌∙◌}
+use native.Mathlib.Omega.{arith}
+use Rattle.groups.specs.Firsts.{older, first}
+use borrow.Author.Rules.{rules}
+use Rattle.groups.proofs.names.first_of.Goals as goal
+
+pub returns-then-first-p : goal.returns-then-first-p
+returns-then-first-p c = older (omega (arith, c.wide8-first.ensures.0, c.if-first-p.true)) c.wide8-first.ensures.0 refl
+
+pub returns : goal.returns
+returns c = first (omega (arith, c.wide8-first.ensures.0, c.if-first-p.false)) refl refl

@@ -1,0 +1,17 @@
+use mathlib.Core.Path.{◌≡◌, sym, ◌∙◌}
+use Prim.Native.Nat.{◌-◌, ◌≤◌}
+use native.Mathlib.Omega.{arith}
+use Rattle.definition.specs.Numbers.{groups_cell}
+use Rattle.definition.specs.Lists.{rows, same_list}
+use Rattle.definition.specs.Tables.{number_at}
+use Rattle.groups.specs.Numbered.{root_numbers}
+use Rattle.groups.proofs.Numbering.{same_start, same-hit, same-on, same_end}
+use borrow.Author.Rules.{rules}
+use Rattle.groups.proofs.numbered.cells_fit.Given as goal
+
+abbrev pub invariant-loop-i : goal.invariant-loop-i
+invariant-loop-i l =
+    (l.i ≤ l.n) × (same_list (rows (number_at groups_cell l.counts) (l.n - l.i) l.i) (rows (root_numbers l.counts l.roots) (l.n - l.i) l.i) ≡ same_list (rows (number_at groups_cell l.counts) l.n 0) (rows (root_numbers l.counts l.roots) l.n 0))
+
+abbrev pub decreases-loop-i : goal.decreases-loop-i
+decreases-loop-i l = l.n - l.i

@@ -1,0 +1,8 @@
+-- The number that stands beside the root's row.
+use Rattle.definition.specs.Tables.{number_at}
+use borrow.Author.Rules.{rules}
+use Rattle.groups.proofs.numbered.root_number.Goals as goal
+
+pub returns : goal.returns
+unfolding number_at
+returns c = rw c.wide16.ensures.0 at c.at16.ensures

@@ -1,0 +1,13 @@
+use mathlib.Core.Path.{◌≡◌, refl, ap, ◌∙◌}
+use Prim.Native.Nat.{ℕ, ◌+◌, ◌-◌, ◌<◌, ◌≤◌}
+use native.Mathlib.Omega.{arith}
+use lib.ListN.{length, length-set}
+use Rattle.groups.proofs.Numbering.{wrote, write-start, write-more, write-end}
+use borrow.Author.Rules.{rules}
+use Rattle.groups.proofs.numbered.write_cells.Given as goal
+
+abbrev pub invariant-loop-i : goal.invariant-loop-i
+invariant-loop-i l = (l.i ≤ l.n) × (l.counts ≡ wrote l.initial.counts l.roots l.n l.i) × (length l.counts ≡ length l.initial.counts)
+
+abbrev pub decreases-loop-i : goal.decreases-loop-i
+decreases-loop-i l = l.i

@@ -1,0 +1,14 @@
+use Prim.Native.Nat.{ℕ, ◌≤◌}
+use mathlib.Core.Path.{◌≡◌}
+use native.Mathlib.Omega.{arith}
+use lib.ListN.{get_or}
+use Rattle.groups.specs.Roots.{Root}
+use Rattle.groups.proofs.Rooting.{root-here, root-next}
+use borrow.Author.Rules.{rules}
+use Rattle.groups.proofs.uniting.root.Given as goal
+
+abbrev pub invariant-loop-up : goal.invariant-loop-up
+invariant-loop-up l = (l.at ≤ l.p) × (l.up ≡ get_or l.ups l.at 0) × ((r : ℕ) → Root l.ups l.at r → Root l.ups l.p r)
+
+abbrev pub decreases-loop-up : goal.decreases-loop-up
+decreases-loop-up l = l.at

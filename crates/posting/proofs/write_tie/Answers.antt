@@ -1,0 +1,8 @@
+-- Three cells make a tie's row.
+use borrow.Author.Rules.{rules}
+use Rattle.definition.specs.Tables.{put_tie}
+use Rattle.posting.proofs.write_tie.Goals as goal
+
+pub returns : goal.returns
+unfolding put_tie
+returns c = rw (c.put_three.ensures, c.from8.ensures.0, c.from8-2.ensures.0)

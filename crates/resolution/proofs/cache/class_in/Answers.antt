@@ -1,0 +1,15 @@
+-- A row that is there has its third cell.
+use mathlib.Core.Path.{◌∙◌, ap, sym}
+use borrow.Author.Rules.{rules}
+use Rattle.resolution.specs.Cached.{class-here, class-nowhere}
+use Rattle.resolution.specs.Quick.{found}
+use Rattle.resolution.specs.declared.Found.TheVariants.{At}
+use Rattle.resolution.proofs.cache.class_in.Goals as goal
+
+pub returns-then-i-at16 : goal.returns-then-i-at16
+unfolding found
+returns-then-i-at16 c = ap At c.entry_class.ensures ∙ ap found (sym (class-here _ _ _ (rw (← c.at16.ensures) c.if-i-at16.true)))
+
+pub returns-else-i-at16 : goal.returns-else-i-at16
+unfolding found
+returns-else-i-at16 c = ap found (sym (class-nowhere _ _ _ (rw (← c.at16.ensures) c.if-i-at16.false)))

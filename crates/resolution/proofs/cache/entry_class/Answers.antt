@@ -1,0 +1,8 @@
+-- The third cell of the row.
+use borrow.Author.Rules.{rules}
+use Rattle.definition.specs.Tables.{entry_at}
+use Rattle.resolution.proofs.cache.entry_class.Goals as goal
+
+pub returns : goal.returns
+unfolding entry_at
+returns c = rw (c.from16.ensures.0, c.at16.ensures, c.wide16.ensures.0)

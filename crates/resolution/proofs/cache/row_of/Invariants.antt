@@ -1,0 +1,16 @@
+use mathlib.Core.Path.{◌∙◌, ◌≡◌, sym}
+use Prim.Native.Nat.{◌+◌, ◌-◌, ◌≤◌}
+use native.Mathlib.Omega.{arith}
+use lib.ListN.{get_or}
+use borrow.Author.Rules.{rules}
+use Rattle.definition.specs.Lists.{rows}
+use Rattle.definition.specs.Requests.{at}
+use Rattle.definition.specs.Tables.{entry_at}
+use Rattle.resolution.specs.Cached.{row_of, row_here, row-later, row-nowhere, row-start}
+use Rattle.resolution.proofs.cache.row_of.Given as goal
+
+abbrev pub invariant-loop-i : goal.invariant-loop-i
+invariant-loop-i l = (l.i ≤ l.n) × (l.i + row_of (rows (entry_at l.cache) (l.n - l.i) l.i) (at l.loader l.name) ≡ row_of (rows (entry_at l.cache) (get_or l.counts 2 0) 0) (at l.loader l.name))
+
+abbrev pub decreases-loop-i : goal.decreases-loop-i
+decreases-loop-i l = l.n - l.i

@@ -1,0 +1,19 @@
+-- The cells are written from the last class to the first. What is left to write over what was written gives the whole.
+use mathlib.Core.Path.{◌∙◌, ◌≡◌, ap, refl, sym}
+use lib.ListN.{length, length-set, set}
+use borrow.Author.Rules.{rules}
+use Rattle.definition.specs.Lists.{rows, write_rows}
+use Rattle.resolution.proofs.Laws.{write-end, write-next}
+use Rattle.resolution.specs.Lookups.{super_cell}
+use Rattle.resolution.specs.Quick.{quick_base}
+use Rattle.resolution.proofs.classes.fill_supers.Goals as goal
+
+pub loop-i-init : goal.loop-i-init
+loop-i-init c = (refl, refl)
+
+pub loop-i-preserved : goal.loop-i-preserved
+loop-i-preserved c =
+    (rw (c.put8.ensures, c.wide8.ensures.0, c.super_cell.ensures) (sym (write-next _ _ _ c.loop-i-test.true) ∙ c.loop-i.invariant.0), ap length c.put8.ensures ∙ simp length-set c.loop-i.invariant.1)
+
+pub returns : goal.returns
+returns c = sym (write-end _ _ _ _ c.loop-i-test.false) ∙ c.loop-i.invariant.0

@@ -1,0 +1,6 @@
+-- The cell of the class's row.
+use borrow.Author.Rules.{rules}
+use Rattle.resolution.proofs.classes.row_cell.Goals as goal
+
+pub returns : goal.returns
+returns c = rw (c.at16.ensures, c.wide32.ensures.0, c.wide8.ensures.0)

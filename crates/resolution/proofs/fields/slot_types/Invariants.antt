@@ -1,0 +1,17 @@
+use mathlib.Core.List.{map}
+use mathlib.Core.Path.{◌∙◌, ◌≡◌, refl, sym}
+use lib.ListN.{length, set}
+use borrow.Author.Rules.{rules}
+use Rattle.definition.specs.Classes.{slots}
+use Rattle.definition.specs.Lists.{write_rows}
+use Rattle.laws.specs.Agreement.{super-falls}
+use Rattle.resolution.proofs.Laws.{rest-last, rest_up, rest-within, types-none, types_up}
+use Rattle.resolution.specs.Quick.{found-absent, found_at, quick_base}
+use Rattle.resolution.specs.Slots.{slot_type}
+use Rattle.resolution.proofs.fields.slot_types.Given as goal
+
+abbrev pub invariant-loop-p : goal.invariant-loop-p
+invariant-loop-p l = (write_rows set (map slot_type (slots (quick_base l.counts l.classes l.kept l.cache) l.at)) 0 l.types ≡ write_rows set (map slot_type (slots (quick_base l.counts l.classes l.kept l.cache) l.c)) 0 l.initial.types) × (l.end ≡ length (slots (quick_base l.counts l.classes l.kept l.cache) l.at)) × (length l.types ≡ length l.initial.types)
+
+abbrev pub decreases-loop-p : goal.decreases-loop-p
+decreases-loop-p l = l.at

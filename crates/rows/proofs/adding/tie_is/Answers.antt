@@ -1,0 +1,32 @@
+-- A row is a tie on another name, a tie of the loaders as given, or perhaps one of them turned round.
+use mathlib.Core.Path.{sym, ◌∙◌}
+use borrow.Author.Rules.{rules}
+use Rattle.rows.proofs.Posted.{tie-not, tie-straight, tie-turned}
+use Rattle.rows.proofs.adding.tie_is.Goals as goal
+
+pub returns-then-at16-name : goal.returns-then-at16-name
+returns-then-at16-name c = sym (tie-not _ _ _ _ _ (λ e. c.if-at16-name.true (c.at16.ensures ∙ e)))
+
+pub returns-then-are_equal : goal.returns-then-are_equal
+returns-then-are_equal c =
+    let if1 = c.if-at16-name in
+    let at163 = c.at16 in
+    let from82 = c.from8-far in
+    let from8 = c.from8-near in
+    let at162 = c.at16-second in
+    let at16 = c.at16-first in
+    sym (tie-straight _ _ _ _ _ (sym at163.ensures ∙ if1.false)
+    (sym (rw (at16.ensures, at162.ensures, from8.ensures.0, from82.ensures.0) at c.are_equal.ensures) ∙ c.if-are_equal.true))
+
+pub returns : goal.returns
+returns c =
+    let equal = c.are_equal in
+    let if1 = c.if-at16-name in
+    let at163 = c.at16 in
+    let from82 = c.from8-far in
+    let from8 = c.from8-near in
+    let at162 = c.at16-second in
+    let at16 = c.at16-first in
+    (rw (at16.ensures, at162.ensures, from8.ensures.0, from82.ensures.0) at c.are_equal-2.ensures)
+    ∙ sym (tie-turned _ _ _ _ _ (sym at163.ensures ∙ if1.false)
+    (sym (rw (at16.ensures, at162.ensures, from8.ensures.0, from82.ensures.0) at equal.ensures) ∙ c.if-are_equal.false))

@@ -1,0 +1,19 @@
+use mathlib.Core.Path.{◌∙◌, ◌≡◌, refl, sym}
+use Prim.Native.Nat.{◌+◌, ◌-◌, ◌≤◌, ◌<◌}
+use native.Mathlib.Omega.{arith}
+use borrow.Author.Rules.{rules}
+use Rattle.definition.specs.Numbers.{tie_numbers_cell, subtype_numbers_cell}
+use Rattle.definition.specs.Broken.{in_turn}
+use Rattle.definition.specs.Lists.{rows}
+use Rattle.definition.specs.Tables.{number_at}
+use Rattle.rows.proofs.Turns.{next-is, next-isnt, next-there, turn-start, turn-tie, turn-subtype, turn-stop}
+use Rattle.rows.specs.Numbers.{no_number, standing, numbers_fit}
+use Rattle.rows.proofs.numbers.numbers_fit.Given as goal
+
+abbrev pub invariant-loop-tie : goal.invariant-loop-tie
+invariant-loop-tie l =
+    (l.t + l.s ≡ l.k) × (l.t ≤ l.ties) × (l.s ≤ l.subtypes) × (l.k < no_number) × (l.tie ≡ standing (rows (number_at tie_numbers_cell l.counts) (l.ties - l.t) l.t)) × (l.subtype ≡ standing (rows (number_at subtype_numbers_cell l.counts) (l.subtypes - l.s) l.s))
+    × (in_turn (l.ties + l.subtypes - l.k) l.k (rows (number_at tie_numbers_cell l.counts) (l.ties - l.t) l.t) (rows (number_at subtype_numbers_cell l.counts) (l.subtypes - l.s) l.s) ≡ numbers_fit l.counts)
+
+abbrev pub decreases-loop-tie : goal.decreases-loop-tie
+decreases-loop-tie l = l.ties + l.subtypes - l.k

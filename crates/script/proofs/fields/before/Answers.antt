@@ -1,0 +1,12 @@
+-- The first n bytes of a line, or the whole of it where it is shorter.
+use mathlib.Core.Path.{sym}
+use native.Mathlib.Nat.{le_of_lt}
+use lib.Seq.{take_all, length-take-le}
+use borrow.Author.Rules.{rules}
+use Rattle.script.proofs.fields.before.Goals as goal
+
+pub slice_bounds-result-end : goal.slice_bounds-result-end
+slice_bounds-result-end c = sym (length-take-le _ _ c.if-n-s.true)
+
+pub returns-else-n-s : goal.returns-else-n-s
+returns-else-n-s c = sym (take_all _ _ (le_of_lt c.if-n-s.false))

@@ -1,0 +1,9 @@
+-- Two digits, the higher first.
+use Rattle.script.specs.Files.{pair_value, pair_of}
+use borrow.Author.Rules.{rules}
+use Rattle.script.proofs.files.byte_at.Goals as goal
+
+pub returns : goal.returns
+unfolding pair_value pair_of
+returns c =
+    rw (c.wide8-low.ensures.0, c.hex_value-2.ensures, c.wide8-high.ensures.0, c.hex_value.ensures)

@@ -1,0 +1,23 @@
+-- Pair by pair: the bytes of the pairs before place i are written.
+use mathlib.Core.Path.{◌≡◌, refl, ◌∙◌}
+use Prim.Native.Nat.{◌-◌, ◌≤◌}
+use lib.ListN.{length, set, take}
+use Rattle.definition.specs.Lists.{write_rows}
+use Rattle.script.specs.Files.{quick_pairs, pair-written, pairs-written}
+use borrow.Author.Rules.{rules}
+use native.Mathlib.Omega.{arith}
+use Rattle.script.proofs.files.decode.Goals as goal
+
+pub loop-i-init : goal.loop-i-init
+unfolding write_rows
+loop-i-init c = (omega arith, refl, refl)
+
+pub loop-i-preserved : goal.loop-i-preserved
+loop-i-preserved c =
+    (omega arith, rw (c.put8.ensures, c.byte_at.ensures, c.loop-i.invariant.1) (pair-written _ _ _ c.loop-i-test.true), c.put8.auto.t ∙ c.loop-i.invariant.2)
+
+pub shape_of-file : goal.shape_of-file
+shape_of-file c = c.loop-i.invariant.2
+
+pub returns : goal.returns
+returns c = rw (c.loop-i.invariant.1, pairs-written _ _ c.loop-i-test.false)

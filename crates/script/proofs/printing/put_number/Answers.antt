@@ -1,0 +1,8 @@
+-- A space, then the digits.
+use Rattle.script.specs.Printing.{number-wrote}
+use borrow.Author.Rules.{rules}
+use Rattle.script.proofs.printing.put_number.Goals as goal
+
+pub returns : goal.returns
+returns c =
+    number-wrote _ _ _ _ _ c.put8.ensures _ c.put_digits.ensures

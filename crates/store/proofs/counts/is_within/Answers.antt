@@ -1,0 +1,6 @@
+-- The count is compared with its limit.
+use borrow.Author.Rules.{rules}
+use Rattle.store.proofs.counts.is_within.Goals as goal
+
+pub returns : goal.returns
+returns c = rw c.at16.ensures

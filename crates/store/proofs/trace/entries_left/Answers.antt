@@ -1,0 +1,8 @@
+-- A cell of the row.
+use borrow.Author.Rules.{rules}
+use Rattle.definition.specs.Tables.{level_at}
+use Rattle.store.proofs.trace.entries_left.Goals as goal
+
+pub returns : goal.returns
+unfolding level_at
+returns c = rw (c.at16.ensures, c.wide16.ensures.0)

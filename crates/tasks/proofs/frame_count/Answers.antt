@@ -1,0 +1,6 @@
+-- The count of a task's frames stands in cell 6 + task.
+use borrow.Author.Rules.{rules}
+use Rattle.tasks.proofs.frame_count.Goals as goal
+
+pub returns : goal.returns
+returns c = rw (c.at16.ensures, c.wide8.ensures.0)

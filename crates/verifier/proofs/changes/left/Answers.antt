@@ -1,0 +1,15 @@
+-- The receiver is met, or nothing is left.
+use mathlib.Core.Path.{sym, ◌∙◌}
+use borrow.Author.Tests.{not-true, not-false}
+use Rattle.definition.specs.Instructions.{pick}
+use Rattle.verifier.specs.Answers.{change_of}
+use Rattle.verifier.proofs.ChangeLaws.{unmet-notes, unmet-left, met-left}
+use borrow.Author.Rules.{rules}
+use Rattle.verifier.proofs.changes.left.Goals as goal
+
+pub returns-then-not-met : goal.returns-then-not-met
+returns-then-not-met c = c.unfit.ensures ∙ sym (unmet-left _ _ _ _ (unmet-notes _ (sym c.met.ensures ∙ c.if-not-met.true)))
+
+pub returns : goal.returns
+unfolding change_of pick
+returns c = sym (met-left _ _ _ _ (sym c.met.ensures ∙ c.if-not-met.false))

@@ -1,0 +1,19 @@
+use mathlib.Core.Path.{◌≡◌, refl, sym, ◌∙◌}
+use native.Mathlib.Omega.{arith}
+use Prim.Native.Nat.{◌≤◌, ◌<◌, ◌-◌}
+use lib.ListN.{length}
+use borrow.Author.Tests.{not-true, not-false}
+use Rattle.classfile.specs.Reading.{file_version, class_name, method_count, methods_from}
+use Rattle.rows.specs.Posting.{noted}
+use Rattle.verifier.specs.Trace.{methods_trace, class_trace, posting}
+use Rattle.verifier.proofs.ClassLaws.{class-goes, class-stops, class-ends, class-begins}
+use borrow.Author.Rules.{rules}
+use Rattle.verifier.proofs.classes.verify_class.Given as goal
+
+abbrev pub invariant-loop-j : goal.invariant-loop-j
+invariant-loop-j l =
+    (l.j ≤ l.n) × (length l.subtypes ≡ length l.initial.subtypes)
+    × (posting l.loader (methods_trace (file_version l.bytes) (class_name l.bytes) (methods_from l.bytes l.j)) (noted l.subtypes l.total) ≡ posting l.loader (class_trace l.bytes) (noted l.initial.subtypes l.count))
+
+abbrev pub decreases-loop-j : goal.decreases-loop-j
+decreases-loop-j l = l.n - l.j

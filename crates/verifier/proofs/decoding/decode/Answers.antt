@@ -1,0 +1,26 @@
+-- The instruction at a point is read where its opcode and its inline bytes stand before the end.
+use mathlib.Core.Path.{ap, ◌∙◌}
+use Rattle.definition.specs.Instructions.{opcode_of}
+use Rattle.verifier.specs.Decoding.{reading_of}
+use Rattle.verifier.proofs.DecodingLaws.{decode-past, decode-cut, decode-whole}
+use borrow.Author.Rules.{rules}
+use Rattle.verifier.proofs.decoding.decode.Goals as goal
+
+pub returns-then-code-p : goal.returns-then-code-p
+unfolding reading_of
+returns-then-code-p c = rw (decode-past _ _ _ c.if-code-p.true)
+
+pub returns-then-code-p-2 : goal.returns-then-code-p-2
+unfolding reading_of
+returns-then-code-p-2 c =
+    rw
+    (decode-cut _ _ _ _ _ (c.opcode_of-o.ensures ∙ ap (opcode_of _) c.at8.ensures)
+    c.inline_length-n.ensures c.if-code-p.false c.if-code-p-2.true)
+
+pub returns : goal.returns
+returns c =
+    rw (
+      c.instruction_of.ensures,
+      decode-whole _ _ _ _ _ (c.opcode_of-o.ensures ∙ ap (opcode_of _) c.at8.ensures)
+          c.inline_length-n.ensures c.if-code-p.false c.if-code-p-2.false,
+    )

@@ -1,0 +1,55 @@
+-- Two ints go.
+use Rattle.definition.specs.Verifier.{effect}
+use Rattle.verifier.specs.Types.{types_of}
+use Rattle.verifier.proofs.TypeLaws.{popped-empty, popped-top}
+use Rattle.definition.specs.Maybe.{◌>>=◌}
+use Rattle.verifier.specs.Effects.{notes_in, going}
+use Rattle.verifier.specs.Trace.{meet_from, values_trace}
+use Rattle.verifier.specs.Answers.{outcome_of}
+use Rattle.verifier.proofs.EffectLaws.{int_is, int-not}
+use borrow.Author.Rules.{rules}
+use Rattle.verifier.proofs.effects.compared.Goals as goal
+
+pub returns-in_default : goal.returns-in_default
+unfolding outcome_of going effect types_of ◌>>=◌
+returns-in_default c o = rw (popped-empty _ _ _ c.pop.ensures c.in_default.is)
+
+pub returns-in_default-pop : goal.returns-in_default-pop
+unfolding outcome_of going effect types_of ◌>>=◌
+returns-in_default-pop c o =
+    rw (
+      popped-top _ _ _ c.pop.ensures c.in-Top.is,
+      popped-empty _ _ _ c.pop-2.ensures c.in_default-pop.is,
+    )
+
+pub returns-then-x-ne-INT : goal.returns-then-x-ne-INT
+unfolding outcome_of going effect types_of ◌>>=◌
+returns-then-x-ne-INT c o =
+    rw (
+      popped-top _ _ _ c.pop.ensures
+          c.in-Top.is,
+      popped-top _ _ _ c.pop-2.ensures c.in-Top-pop.is,
+      int-not _ c.if-x-ne-INT.true,
+    )
+
+pub returns-then-y-ne-INT : goal.returns-then-y-ne-INT
+unfolding outcome_of going effect types_of ◌>>=◌
+returns-then-y-ne-INT c o =
+    rw (
+      popped-top _ _ _ c.pop.ensures
+          c.in-Top.is,
+      popped-top _ _ _ c.pop-2.ensures c.in-Top-pop.is,
+      int_is _ c.if-x-ne-INT.false,
+      int-not _ c.if-y-ne-INT.true,
+    )
+
+pub returns : goal.returns
+unfolding outcome_of going effect types_of ◌>>=◌ notes_in values_trace meet_from
+returns c o =
+    rw (
+      popped-top _ _ _ c.pop.ensures
+          c.in-Top.is,
+      popped-top _ _ _ c.pop-2.ensures c.in-Top-pop.is,
+      int_is _ c.if-x-ne-INT.false,
+      int_is _ c.if-y-ne-INT.false,
+    )

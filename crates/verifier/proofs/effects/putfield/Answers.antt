@@ -1,0 +1,63 @@
+-- A value and a receiver go.
+use mathlib.Core.Path.{sym, ap, ◌∙◌}
+use borrow.Author.Tests.{not-true, not-false}
+use Rattle.definition.specs.Verifier.{effect, meet_class}
+use Rattle.verifier.specs.Types.{type_of, types_of}
+use Rattle.verifier.proofs.TypeLaws.{popped-empty, popped-top}
+use Rattle.verifier.proofs.ValueLaws.{one_value, nothing}
+use Rattle.definition.specs.Maybe.{◌>>=◌, need}
+use Rattle.verifier.specs.Effects.{going}
+use Rattle.verifier.specs.Trace.{granted}
+use Rattle.verifier.specs.Answers.{outcome_of}
+use borrow.Author.Rules.{rules}
+use Rattle.verifier.proofs.effects.putfield.Goals as goal
+
+pub returns-then-not-named : goal.returns-then-not-named
+unfolding outcome_of going effect types_of ◌>>=◌ need
+returns-then-not-named c = rw (sym c.named.ensures ∙ c.if-not-named.true)
+
+pub returns-in_default : goal.returns-in_default
+unfolding outcome_of going effect types_of ◌>>=◌ need
+returns-in_default c =
+    rw (
+      sym c.named.ensures ∙ c.if-not-named.false,
+      popped-empty _ _ _ c.pop.ensures c.in_default.is,
+    )
+
+pub returns-in_default-pop : goal.returns-in_default-pop
+unfolding outcome_of going effect types_of ◌>>=◌ need
+returns-in_default-pop c =
+    rw (
+      sym c.named.ensures
+          ∙ c.if-not-named.false,
+      popped-top _ _ _ c.pop.ensures c.in-Top.is,
+      popped-empty _ _ _ c.pop-2.ensures c.in_default-pop.is,
+    )
+
+pub returns-then-not-are_met : goal.returns-then-not-are_met
+unfolding outcome_of going effect types_of granted ◌>>=◌ need
+returns-then-not-are_met c =
+    let args = c.args in
+    let top = popped-top _ _ _ c.pop.ensures c.in-Top.is in
+    let below = popped-top _ _ _ c.pop-2.ensures c.in-Top-pop.is in
+    rw (
+      sym c.named.ensures ∙ c.if-not-named.false,
+      top,
+      below,
+      one_value args.types.operands args.t _ _ _ _ _ top below _ _ c.are_met.ensures c.if-not-are_met.true,
+    )
+    (ap going (sym (nothing (meet_class args.c (type_of c.in-Top-pop.y)))))
+
+pub returns : goal.returns
+unfolding outcome_of going effect types_of granted ◌>>=◌ need
+returns c =
+    let args = c.args in
+    let top = popped-top _ _ _ c.pop.ensures c.in-Top.is in
+    let below = popped-top _ _ _ c.pop-2.ensures c.in-Top-pop.is in
+    rw (
+      sym c.named.ensures ∙ c.if-not-named.false,
+      top,
+      below,
+      c.meet_class.ensures,
+      one_value args.types.operands args.t _ _ _ _ _ top below _ _ c.are_met.ensures c.if-not-are_met.false,
+    )

@@ -1,0 +1,17 @@
+use Prim.Native.Nat.{ℕ, ◌+◌, ◌-◌, ◌≤◌, ◌<◌}
+use mathlib.Core.Path.{◌≡◌, refl, ap, ◌∙◌}
+use native.Mathlib.Omega.{arith}
+use lib.ListN.{length, length-set}
+use Rattle.definition.specs.Verifier.{type_of_name}
+use Rattle.classfile.specs.Reading.{type_at}
+use Rattle.verifier.specs.Types.{operand_at}
+use Rattle.verifier.proofs.FlowLaws.{operand-set}
+use borrow.Author.Rules.{rules}
+use Rattle.verifier.proofs.flows.mapped_operands.Given as goal
+
+abbrev pub invariant-loop-i : goal.invariant-loop-i
+invariant-loop-i l =
+    (l.i ≤ l.n) × (length l.operands ≡ 16) × ((j : ℕ) → j < l.i → operand_at l.operands j ≡ type_of_name (type_at l.maps (l.place + 19) j))
+
+abbrev pub decreases-loop-i : goal.decreases-loop-i
+decreases-loop-i l = l.n - l.i

@@ -1,0 +1,20 @@
+use mathlib.Core.Path.{◌≡◌, refl, sym, ◌∙◌}
+use Prim.Native.Nat.{◌≤◌, ◌-◌}
+use native.Mathlib.Omega.{arith}
+use lib.ListN.{length}
+use borrow.Author.Tests.{not-true, not-false}
+use Rattle.rows.specs.Posting.{noted}
+use Rattle.verifier.specs.Trace.{posting, meet_from}
+use Rattle.verifier.specs.Answers.{meet_at}
+use Rattle.verifier.proofs.ChangeLaws.{met-notes, unmet-notes}
+use Rattle.verifier.proofs.FlowLaws.{meet-start, meet-end, meet-unmet, meet-met}
+use borrow.Author.Rules.{rules}
+use Rattle.verifier.proofs.flows.meet_part.Given as goal
+
+abbrev pub invariant-loop-i : goal.invariant-loop-i
+invariant-loop-i l =
+    (l.i ≤ l.n) × (length l.subtypes ≡ length l.initial.subtypes)
+    × (posting l.loader (meet_from (meet_at l.maps l.place l.values l.part) (l.n - l.i) l.i) (noted l.subtypes l.total) ≡ posting l.loader (meet_from (meet_at l.maps l.place l.values l.part) l.n 0) (noted l.initial.subtypes l.count))
+
+abbrev pub decreases-loop-i : goal.decreases-loop-i
+decreases-loop-i l = l.n - l.i

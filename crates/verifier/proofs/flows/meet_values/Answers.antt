@@ -1,0 +1,35 @@
+-- The values are met one by one. What is left of them, with the notes posted so far, is always the whole.
+use mathlib.Core.Path.{◌≡◌, refl, sym, ◌∙◌}
+use Prim.Native.Nat.{◌≤◌, ◌-◌}
+use native.Mathlib.Omega.{arith}
+use lib.ListN.{length}
+use borrow.Author.Tests.{not-true, not-false}
+use Rattle.rows.specs.Posting.{noted}
+use Rattle.verifier.specs.Effects.{meet_value}
+use Rattle.verifier.specs.Trace.{posting, meet_from, values_trace}
+use Rattle.verifier.proofs.ChangeLaws.{met-notes, unmet-notes}
+use Rattle.verifier.proofs.FlowLaws.{meet-end, meet-unmet, meet-met}
+use Rattle.verifier.proofs.ValueLaws.{values-posted}
+use borrow.Author.Rules.{rules}
+use Rattle.verifier.proofs.flows.meet_values.Goals as goal
+
+pub loop-i-init : goal.loop-i-init
+loop-i-init c = (omega arith, refl, values-posted _ _ _ _ _ _ c.argument_count-n.ensures)
+
+pub returns-then-not-met : goal.returns-then-not-met
+returns-then-not-met c =
+    rw c.rejected.ensures
+    (sym (meet-unmet _ _ _ _ _ c.loop-i-test.true (sym c.meet_value-m.ensures ∙ unmet-notes _ (sym c.met.ensures ∙ c.if-not-met.true))) ∙ c.loop-i.invariant.2)
+
+pub loop-i-preserved : goal.loop-i-preserved
+loop-i-preserved c =
+    let at = c.loop-i in (
+      omega arith,
+      c.post_meeting-total.auto.subtypes ∙ at.invariant.1,
+      rw c.post_meeting-total.ensures
+          (sym (meet-met _ _ _ _ _ c.loop-i-test.true _
+          (sym c.meet_value-m.ensures ∙ met-notes _ (sym c.met.ensures ∙ c.if-not-met.false))) ∙ at.invariant.2),
+    )
+
+pub returns : goal.returns
+returns c = sym (meet-end _ _ _ _ _ c.loop-i-test.false) ∙ c.loop-i.invariant.2

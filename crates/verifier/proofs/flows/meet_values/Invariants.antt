@@ -1,0 +1,21 @@
+use mathlib.Core.Path.{◌≡◌, refl, sym, ◌∙◌}
+use Prim.Native.Nat.{◌≤◌, ◌-◌}
+use native.Mathlib.Omega.{arith}
+use lib.ListN.{length}
+use borrow.Author.Tests.{not-true, not-false}
+use Rattle.rows.specs.Posting.{noted}
+use Rattle.verifier.specs.Effects.{meet_value}
+use Rattle.verifier.specs.Trace.{posting, meet_from, values_trace}
+use Rattle.verifier.proofs.ChangeLaws.{met-notes, unmet-notes}
+use Rattle.verifier.proofs.FlowLaws.{meet-end, meet-unmet, meet-met}
+use Rattle.verifier.proofs.ValueLaws.{values-posted}
+use borrow.Author.Rules.{rules}
+use Rattle.verifier.proofs.flows.meet_values.Given as goal
+
+abbrev pub invariant-loop-i : goal.invariant-loop-i
+invariant-loop-i l =
+    (l.i ≤ l.n) × (length l.subtypes ≡ length l.initial.subtypes)
+    × (posting l.loader (meet_from (meet_value l.types.operands l.d l.names) (l.n - l.i) l.i) (noted l.subtypes l.total) ≡ posting l.loader (values_trace l.types.operands l.d l.names) (noted l.initial.subtypes l.count))
+
+abbrev pub decreases-loop-i : goal.decreases-loop-i
+decreases-loop-i l = l.n - l.i

@@ -1,0 +1,7 @@
+-- As it is written.
+use mathlib.Core.Path.{refl}
+use borrow.Author.Rules.{rules}
+use Rattle.verifier.proofs.flows.unmet.Goals as goal
+
+pub returns : goal.returns
+returns c = (refl, refl)

@@ -1,0 +1,39 @@
+-- Before map i is looked at, its place is known, and the maps from i on have the map that all have.
+use Prim.Native.Nat.{◌+◌, ◌-◌, ◌*◌, ◌≤◌}
+use mathlib.Core.Path.{◌≡◌, sym, ◌∙◌}
+use native.Mathlib.Omega.{arith}
+use Rattle.definition.specs.Instructions.{pick}
+use Rattle.definition.specs.Lists.{rows}
+use Rattle.definition.specs.Verifier.{map_at}
+use Rattle.classfile.specs.Reading.{map_of, map_place, map_numbered, maps_of}
+use Rattle.verifier.specs.Lookups.{map_there}
+use Rattle.verifier.proofs.LookupLaws.{map_next, found-start, found_here, found-later, found-never}
+use borrow.Author.Rules.{rules}
+use Rattle.verifier.proofs.lookups.search_map.Goals as goal
+
+pub loop-i-init : goal.loop-i-init
+unfolding map_place
+loop-i-init c = (omega arith, omega arith, omega arith, omega arith, found-start _ _ _ c.map_count-n.ensures)
+
+pub returns-then-wide16-q : goal.returns-then-wide16-q
+unfolding map_of
+returns-then-wide16-q c =
+    let at = c.loop-i in
+    let same = rw (c.wide16.ensures.0, c.map_offset.ensures) at c.if-wide16-q.true in
+    found_here _ _ _ _ _ at.invariant.2 c.loop-i-test.true at.invariant.1 same ∙ at.invariant.4
+
+pub loop-i-preserved : goal.loop-i-preserved
+unfolding map_of
+loop-i-preserved c =
+    let at = c.loop-i in
+    let other = rw (c.wide16.ensures.0, c.map_offset.ensures) at c.if-wide16-q.false in (
+      omega arith,
+      omega arith,
+      map_next _ _ _ _ at.invariant.2 c.map_size-place.ensures.0,
+      omega arith,
+      sym (found-later _ _ _ _ _ at.invariant.2 c.loop-i-test.true other) ∙ at.invariant.4,
+    )
+
+pub returns : goal.returns
+unfolding map_there pick
+returns c = sym (found-never _ _ _ _ c.loop-i-test.false) ∙ c.loop-i.invariant.4

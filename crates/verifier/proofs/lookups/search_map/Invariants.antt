@@ -1,0 +1,22 @@
+use Prim.Native.Nat.{◌+◌, ◌-◌, ◌*◌, ◌≤◌}
+use mathlib.Core.Path.{◌≡◌, sym, ◌∙◌}
+use native.Mathlib.Omega.{arith}
+use Rattle.definition.specs.Instructions.{pick}
+use Rattle.definition.specs.Lists.{rows}
+use Rattle.definition.specs.Verifier.{map_at}
+use Rattle.classfile.specs.Reading.{map_of, map_place, map_numbered, maps_of}
+use Rattle.verifier.specs.Lookups.{map_there}
+use Rattle.verifier.proofs.LookupLaws.{map_next, found-start, found_here, found-later, found-never}
+use borrow.Author.Rules.{rules}
+use Rattle.verifier.proofs.lookups.search_map.Given as goal
+
+abbrev pub invariant-loop-i : goal.invariant-loop-i
+invariant-loop-i l =
+    (l.i ≤ l.n)
+    × (1 ≤ l.place)
+    × (l.place ≡ map_place l.maps l.i)
+    × (l.place ≤ 1 + 529 * l.i)
+    × (map_at (rows (map_numbered l.maps) (l.n - l.i) l.i) l.q ≡ map_at (maps_of l.maps) l.q)
+
+abbrev pub decreases-loop-i : goal.decreases-loop-i
+decreases-loop-i l = l.n - l.i

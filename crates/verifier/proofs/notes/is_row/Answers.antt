@@ -1,0 +1,16 @@
+-- The part of the table is the row alone.
+use mathlib.Core.Bool.{false≢true}
+use mathlib.Core.Path.{refl, sym, ap, ◌∙◌}
+use Prim.Native.Nat.{ℕ, ◌+◌, ◌*◌, ◌-◌}
+use native.Mathlib.Omega.{arith}
+use Rattle.definition.specs.Loading.{subtype_is}
+use Rattle.rows.specs.Posting.{note}
+use Rattle.verifier.proofs.NoteLaws.{row-alone}
+use borrow.Author.Rules.{rules}
+use Rattle.verifier.proofs.notes.is_row.Goals as goal
+
+pub returns-then-subtypes-end : goal.returns-then-subtypes-end
+returns-then-subtypes-end c = λ h. absurd (false≢true h)
+
+pub returns : goal.returns
+returns c = λ h. sym (row-alone (subtype_is c.args.loader (note c.args.low c.args.high)) c.args.subtypes.now c.args.i (c.wide16-start.result * 3) (c.wide16-start.result * 3 + 3 - c.wide16-start.result * 3) (ap (λ (x : ℕ). x * 3) c.wide16-start.ensures.0) (omega arith)) ∙ sym c.subtype_known.ensures ∙ h

@@ -1,0 +1,13 @@
+-- The maps are looked up by a table, which is left out where there are none.
+use Rattle.verifier.proofs.LookupLaws.{indexed-nowhere}
+use borrow.Author.Rules.{rules}
+use Rattle.verifier.proofs.places.check_method.Goals as goal
+
+pub check_code-requires : goal.check_code-requires
+check_code-requires c = indexed-nowhere _
+
+pub returns-then-map_count-eq0 : goal.returns-then-map_count-eq0
+returns-then-map_count-eq0 c = c.check_code.ensures
+
+pub returns : goal.returns
+returns c = c.check_code-2.ensures

@@ -1,0 +1,17 @@
+use mathlib.Core.Path.{◌≡◌, refl, sym, ap, ◌∙◌}
+use Prim.Native.Nat.{◌-◌}
+use native.Mathlib.Omega.{arith}
+use Rattle.classfile.specs.Reading.{file_version, class_name, method_count, methods_from, quick_methods}
+use Rattle.definition.specs.Places.{first_place}
+use Rattle.verifier.specs.Stops.{point_of, place_of, check_in}
+use Rattle.verifier.proofs.StopLaws.{place-begins, place-ends, place-hit, place-on}
+use borrow.Author.Rules.{rules}
+use Rattle.verifier.proofs.places.find_place.Given as goal
+
+abbrev pub invariant-loop-j : goal.invariant-loop-j
+invariant-loop-j l =
+    (l.n ≡ method_count l.bytes)
+    × (first_place (check_in l.check (file_version l.bytes) (class_name l.bytes)) l.j (methods_from l.bytes l.j) ≡ first_place (check_in l.check (file_version l.bytes) (class_name l.bytes)) 0 (quick_methods l.bytes))
+
+abbrev pub decreases-loop-j : goal.decreases-loop-j
+decreases-loop-j l = l.n - l.j

@@ -1,0 +1,21 @@
+use mathlib.Core.Path.{◌≡◌, refl, sym, ap, ◌∙◌}
+use mathlib.Core.List.{[]}
+use native.Mathlib.Omega.{arith}
+use lib.ListN.{length}
+use Rattle.classfile.specs.Reading.{maps_of, map_place}
+use Rattle.verifier.specs.Types.{types_of}
+use Rattle.verifier.specs.Trace.{left_from}
+use Rattle.verifier.specs.Answers.{PlaceOf, next_of}
+use Rattle.verifier.specs.Stops.{point_of, stops}
+use Rattle.verifier.proofs.WalkLaws.{left-all, passed-inside, passed_to}
+use Rattle.verifier.proofs.StopLaws.{next-is, stop-out, stop-inside, stop-stop, stop-end, stop-next}
+use borrow.Author.Rules.{rules}
+use Rattle.verifier.proofs.places.walk_stop.Given as goal
+
+abbrev pub invariant-loop-left : goal.invariant-loop-left
+invariant-loop-left l =
+    PlaceOf l.maps l.i l.place
+    × (stops l.version l.code (maps_of l.maps) l.res l.left l.p (left_from l.maps l.i) (types_of l.types) ≡ stops l.version l.code (maps_of l.maps) l.res (length l.code) 0 (maps_of l.maps) (types_of l.initial.types))
+
+abbrev pub decreases-loop-left : goal.decreases-loop-left
+decreases-loop-left l = l.left

@@ -1,0 +1,61 @@
+-- Each turn is one of the walk: what is left of it is always the whole.
+use mathlib.Core.Path.{◌≡◌, refl, sym, ◌∙◌}
+use mathlib.Core.Logic.{⊎_elim}
+use mathlib.Core.List.{[]}
+use Prim.Native.Nat.{◌<◌, ◌≤◌}
+use native.Mathlib.Omega.{arith}
+use Rattle.classfile.specs.Reading.{maps_of}
+use Rattle.verifier.specs.Types.{types_of}
+use Rattle.verifier.specs.Trace.{trace, left_from}
+use Rattle.verifier.specs.Answers.{PlaceOf}
+use Rattle.verifier.proofs.WalkLaws.{passed_to}
+use Rattle.verifier.proofs.QuietLaws.{keeps-says, pushes-says, sets-says, quiet_step}
+use borrow.Author.Rules.{rules}
+use Rattle.verifier.proofs.quiet.quiet_run.Goals as goal
+
+pub loop-left-init : goal.loop-left-init
+loop-left-init c = (c.requires.1, c.requires.2, omega arith, refl)
+
+pub pass-requires : goal.pass-requires
+pass-requires c = c.loop-left.invariant.0
+
+pub quiet_at-quiet-requires : goal.quiet_at-quiet-requires
+quiet_at-quiet-requires c = c.requires.0
+
+pub offset_bounds-types-d : goal.offset_bounds-types-d
+offset_bounds-types-d c = omega (arith, (pushes-says _ _ _ c.quiet_at-quiet.ensures _ _ _ c.in-Pushes.is).0)
+
+pub bounds-types-d : goal.bounds-types-d
+bounds-types-d c = (pushes-says _ _ _ c.quiet_at-quiet.ensures _ _ _ c.in-Pushes.is).0
+
+pub overflow_add-types : goal.overflow_add-types
+overflow_add-types c = omega (arith, (pushes-says _ _ _ c.quiet_at-quiet.ensures _ _ _ c.in-Pushes.is).0)
+
+pub offset_bounds-types-l : goal.offset_bounds-types-l
+offset_bounds-types-l c = omega (arith, (sets-says _ _ _ c.quiet_at-quiet.ensures _ _ _ _ c.in-Sets.is).0)
+
+pub bounds-types-l : goal.bounds-types-l
+bounds-types-l c = (sets-says _ _ _ c.quiet_at-quiet.ensures _ _ _ _ c.in-Sets.is).0
+
+pub loop-left-preserved : goal.loop-left-preserved
+loop-left-preserved c = (
+  (passed_to _ _ _ _ (c.pass.ensures 0 [] [] 0) c.in-To.is).1,
+  omega (arith, c.loop-left-test.true),
+  omega (arith, c.loop-left.invariant.2),
+  ⊎_elim
+      (λ w. quiet_step _ _ _ _ _ _ _ _ _ _ _ _ _ c.loop-left.invariant.1 (passed_to _ _ _ _ (c.pass.ensures _ _ _ _) c.in-To.is).0 (keeps-says _ _ _ c.quiet_at-quiet.ensures _ _ w.1.given.1) w.3 w.4 ∙ c.loop-left.invariant.3)
+      (λ w. ⊎_elim
+      (λ v. quiet_step _ _ _ _ _ _ _ _ _ _ _ _ _ c.loop-left.invariant.1 (passed_to _ _ _ _ (c.pass.ensures _ _ _ _) c.in-To.is).0 (pushes-says _ _ _ c.quiet_at-quiet.ensures _ _ _ v.1.given.1).1 v.3 v.4 ∙ c.loop-left.invariant.3)
+      (λ v. quiet_step _ _ _ _ _ _ _ _ _ _ _ _ _ c.loop-left.invariant.1 (passed_to _ _ _ _ (c.pass.ensures _ _ _ _) c.in-To.is).0 (sets-says _ _ _ c.quiet_at-quiet.ensures _ _ _ _ v.1.given.1).1 v.3 v.4 ∙ c.loop-left.invariant.3)
+      w)
+      c.match-quiet.branch,
+)
+
+pub returns-after-loop-left : goal.returns-after-loop-left
+returns-after-loop-left c = c.loop-left.invariant
+
+pub returns-in_default : goal.returns-in_default
+returns-in_default c = c.loop-left.invariant
+
+pub returns-in-Loud : goal.returns-in-Loud
+returns-in-Loud c = c.loop-left.invariant

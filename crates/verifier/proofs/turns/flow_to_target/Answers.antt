@@ -1,0 +1,24 @@
+-- Nothing flows where there is no target; else the target has a map, and it is met.
+use mathlib.Core.Path.{refl}
+use Rattle.rows.specs.Posting.{post_notes}
+use Rattle.verifier.specs.Lookups.{target_of}
+use Rattle.verifier.specs.Trace.{target_trace, posting}
+use Rattle.verifier.proofs.PostingLaws.{posting-same}
+use Rattle.verifier.proofs.TurnLaws.{target-bare, target-mapped}
+use borrow.Author.Rules.{rules}
+use Rattle.verifier.proofs.turns.flow_to_target.Goals as goal
+
+pub returns-then-place-eq0 : goal.returns-then-place-eq0
+unfolding posting post_notes
+returns-then-place-eq0 c =
+    λ n. rw (c.unmet.ensures.0, c.unmet.ensures.1, target-bare _ n _ _ c.find_map-place.ensures c.if-place-eq0.true _ _ _ c.in-To.is c.wide16.ensures.0) refl
+
+pub returns-in-Nowhere : goal.returns-in-Nowhere
+unfolding target_of target_trace posting post_notes
+returns-in-Nowhere c = λ n. rw c.in-Nowhere.is refl
+
+pub returns-else-place-eq0 : goal.returns-else-place-eq0
+returns-else-place-eq0 c =
+    λ n. posting-same _ _ _ _ _
+    (target-mapped _ n _ _ c.find_map-place.ensures c.if-place-eq0.false _ _ _ c.in-To.is c.wide16.ensures.0)
+    c.meet_map.ensures

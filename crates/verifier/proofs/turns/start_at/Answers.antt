@@ -1,0 +1,31 @@
+-- The code ends at the point, or the types are those of its map, if it has one that could be met.
+use mathlib.Core.Path.{sym, ◌∙◌}
+use borrow.Author.Tests.{not-true, not-false}
+use Rattle.verifier.specs.Answers.{next_of}
+use Rattle.verifier.proofs.FlowLaws.{fits-few}
+use Rattle.verifier.proofs.TurnLaws.{start-end, start-bare, start-unfit, start-mapped, taken-bound}
+use borrow.Author.Rules.{rules}
+use Rattle.verifier.proofs.turns.start_at.Goals as goal
+
+pub returns-then-q-n : goal.returns-then-q-n
+unfolding next_of
+returns-then-q-n c = λ l t. taken-bound _ _ _ _ (start-end _ _ _ c.if-q-n.true)
+
+pub returns-then-place-eq0 : goal.returns-then-place-eq0
+returns-then-place-eq0 c = λ l t. c.stop.ensures t ∙ taken-bound _ _ _ _ (start-bare _ _ _ _ c.find_map-place.ensures c.if-place-eq0.true c.if-q-n.false)
+
+pub returns-then-not-is_fitting : goal.returns-then-not-is_fitting
+returns-then-not-is_fitting c =
+    λ l t. c.stop-then-not-is_fitting.ensures t ∙ taken-bound _ _ _ _
+    (start-unfit _ _ _ _ c.find_map-place.ensures c.if-place-eq0.false c.if-q-n.false
+    (sym c.is_fitting.ensures ∙ c.if-not-is_fitting.true))
+
+pub mapped_types-requires : goal.mapped_types-requires
+mapped_types-requires c = fits-few c.args.types _ _ (sym c.is_fitting.ensures ∙ c.if-not-is_fitting.false)
+
+pub returns : goal.returns
+unfolding next_of
+returns c =
+    λ l t. rw c.mapped_types.ensures (taken-bound _ _ _ _
+    (start-mapped _ _ _ _ c.find_map-place.ensures c.if-place-eq0.false c.if-q-n.false
+    (sym c.is_fitting.ensures ∙ c.if-not-is_fitting.false)))

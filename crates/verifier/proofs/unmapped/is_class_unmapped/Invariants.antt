@@ -1,0 +1,14 @@
+use Prim.Native.Nat.{◌-◌}
+use mathlib.Core.Path.{◌≡◌, sym, ap, ◌∙◌}
+use Rattle.definition.specs.Lists.{any, rows}
+use Rattle.layout.specs.Places.{rows_start, any-hit, any-on, any-end}
+use Rattle.classfile.specs.Reading.{file_version, method_count, method_in, quick_methods}
+use Rattle.verifier.specs.Lookups.{unmapped_in}
+use borrow.Author.Rules.{rules}
+use Rattle.verifier.proofs.unmapped.is_class_unmapped.Given as goal
+
+abbrev pub invariant-loop-j : goal.invariant-loop-j
+invariant-loop-j l = (l.n ≡ method_count l.bytes) × (any (unmapped_in (file_version l.bytes)) (rows (method_in l.bytes) (l.n - l.j) l.j) ≡ any (unmapped_in (file_version l.bytes)) (quick_methods l.bytes))
+
+abbrev pub decreases-loop-j : goal.decreases-loop-j
+decreases-loop-j l = l.n - l.j
