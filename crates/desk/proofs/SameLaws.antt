@@ -1,9 +1,9 @@
 -- The places that the code finds are the definition's, in a file that reads, and small numbers.
-use mathlib.Core.Path.{◌≡◌, refl, sym, ap, subst, ◌∙◌}
+use mathlib.Core.Path.{◌≡◌, refl, sym, subst, ◌∙◌}
 use mathlib.Core.Bool.{Bool, true, false, false≢true}
 use mathlib.Core.Option.{Option, none, some, none-ne-some, some-injective}
-use mathlib.Core.List.{List, [], ◌∷◌, ◌++◌}
-use Prim.Native.Nat.{ℕ, zero, suc, ◌+◌, ◌-◌, ◌≤◌, ◌<◌}
+use mathlib.Core.List.{List, [], ◌∷◌}
+use Prim.Native.Nat.{ℕ, zero, suc, ◌-◌, ◌≤◌}
 use native.Mathlib.Omega.{arith}
 use lib.ListN.{length, get_elem?, take, drop, set}
 use lib.Dec.{leb}
@@ -12,7 +12,7 @@ use Rattle.definition.specs.Lists.{is_some, write_rows}
 use Rattle.definition.specs.Instructions.{pick}
 use Rattle.definition.specs.Maybe.{◌>>=◌}
 use Rattle.definition.specs.Classes.{Class, Map, Method}
-use Rattle.definition.specs.Verifier.{Note, TypeState, Flow, Turn, finished, onto as goes_onto, map_at, flow_into, turn, maps_past, entry_types}
+use Rattle.definition.specs.Verifier.{TypeState, Flow, finished, onto as goes_onto, map_at, flow_into, turn, maps_past, entry_types}
 use Rattle.definition.specs.File.{File, read_file, class_of}
 use Rattle.layout.specs.Tests.{All, is-some}
 use Rattle.layout.specs.Cells.{cells-sets}

@@ -3,9 +3,9 @@ use mathlib.Core.Path.{◌≡◌, refl, sym, ap, ◌∙◌}
 use mathlib.Core.Bool.{Bool, true, false}
 use mathlib.Core.Logic.{⊎_elim}
 use mathlib.Core.List.{List, [], ◌∷◌}
-use Prim.Native.Nat.{ℕ, zero, suc, ◌+◌, ◌-◌, ◌*◌, ◌<◌, ◌≤◌}
+use Prim.Native.Nat.{ℕ, zero, suc, ◌+◌, ◌*◌, ◌<◌, ◌≤◌}
 use native.Mathlib.Omega.{arith}
-use lib.ListN.{length, get_or, take, drop}
+use lib.ListN.{get_or, take, drop}
 use lib.Seq.{get_or-take, get_or-drop}
 use lib.Dec.{leb}
 use borrow.Author.Tests.{leb-true, leb-false}
@@ -15,7 +15,7 @@ use Rattle.definition.specs.Constraints.{Subtype}
 use Rattle.definition.specs.Loading.{subtype_is, new_subtypes}
 use Rattle.definition.specs.Tables.{subtype_at}
 use Rattle.definition.specs.Verifier.{Note}
-use Rattle.rows.specs.Posting.{new_subtypes_in, subtypes_after, Noted, noted, post_note}
+use Rattle.rows.specs.Posting.{new_subtypes_in, subtypes_after, noted, post_note}
 use Rattle.rows.specs.Laws.{post-room, post-over}
 
 -- a table's part of one row has that row

@@ -1,18 +1,18 @@
 -- Turns without notes: what an effect leaves, and where the walk goes.
 use mathlib.Core.Path.{◌≡◌, refl, sym, ap, ◌∙◌}
 use mathlib.Core.Bool.{Bool, true}
-use mathlib.Core.Option.{Option, none, some}
+use mathlib.Core.Option.{some}
 use mathlib.Core.List.{List, []}
-use Prim.Native.Nat.{ℕ, suc, ◌+◌, ◌-◌, ◌<◌, ◌≤◌}
+use Prim.Native.Nat.{ℕ, suc, ◌-◌, ◌<◌, ◌≤◌}
 use native.Mathlib.Omega.{arith}
 use lib.ListN.{length}
 use Rattle.definition.specs.declared.Instruction.{Instruction}
 use Rattle.definition.specs.declared.Arguments.{Arguments}
 use Rattle.definition.specs.declared.Arguments.TheVariants.{NoArguments, OneArgument, TwoArguments, ThreeArguments, FourArguments}
-use Rattle.definition.specs.Instructions.{decode, pick}
+use Rattle.definition.specs.Instructions.{pick}
 use Rattle.definition.specs.Classes.{Map, types_of as names_of}
 use Rattle.definition.specs.Maybe.{◌>>=◌}
-use Rattle.definition.specs.Verifier.{TypeState, Flow, map_at, maps_past, target, goes_on}
+use Rattle.definition.specs.Verifier.{TypeState, map_at, maps_past, target, goes_on}
 use Rattle.classfile.specs.Reading.{maps_of}
 use Rattle.verifier.specs.declared.types.Types.{Types}
 use Rattle.verifier.specs.declared.effects.Meeting.{Meeting}
@@ -23,16 +23,13 @@ use Rattle.verifier.specs.declared.quiet.Quiet.{Quiet}
 use Rattle.verifier.specs.declared.quiet.Quiet.TheVariants.{Loud, Keeps, Pushes, Sets}
 use Rattle.verifier.specs.declared.lookups.Target.{Target}
 use Rattle.verifier.specs.declared.lookups.Target.TheVariants.{Nowhere}
-use Rattle.verifier.specs.declared.decoding.Reading.{Reading}
-use Rattle.verifier.specs.declared.decoding.Reading.TheVariants.{At}
-use Rattle.verifier.specs.Decoding.{reading_of}
 use Rattle.verifier.specs.Lookups.{map_there, target_of}
 use Rattle.verifier.specs.Types.{types_of}
-use Rattle.verifier.specs.Effects.{notes_in, outcome, left_by}
-use Rattle.verifier.specs.Trace.{Trace, meet_from, values_trace, accepting, Onward, onto, onward, Turned, bound, once, target_trace, into_turn, flowing, turned_to, turned, after, proceed, trace}
+use Rattle.verifier.specs.Effects.{notes_in, left_by}
+use Rattle.verifier.specs.Trace.{meet_from, values_trace, onto, onward, Turned, bound, once, target_trace, flowing, turned_to, turned, after, proceed, trace}
 use Rattle.verifier.specs.Answers.{outcome_of, made_flow, keeping, pushing, setting, QuietBy, QuietTo}
 use Rattle.verifier.proofs.ChangeLaws.{kept-fits, pushed-fits, stored_at}
-use Rattle.verifier.proofs.TurnLaws.{into-bare, flow-on, turned-at}
+use Rattle.verifier.proofs.TurnLaws.{into-bare, flow-on}
 
 pub none_named : (a : Arguments) → length (names_of a) ≡ 0 → a ≡ NoArguments
 none_named NoArguments h = refl

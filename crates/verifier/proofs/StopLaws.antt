@@ -2,7 +2,7 @@
 use mathlib.Core.Path.{◌≡◌, refl, sym, ap, subst, ◌∙◌}
 use mathlib.Core.Bool.{Bool, true, false, not}
 use mathlib.Core.Option.{Option, none, some}
-use mathlib.Core.List.{List, ◌∷◌}
+use mathlib.Core.List.{List}
 use Prim.Native.Nat.{ℕ, zero, suc, ◌+◌, ◌-◌, ◌<◌, ◌≤◌}
 use native.Mathlib.Omega.{arith}
 use native.Mathlib.Numerals.{add-one}
@@ -17,14 +17,14 @@ use Rattle.layout.specs.Places.{rows_step, rows_none, rows_start}
 use Rattle.classfile.specs.Reading.{file_version, class_name, maps_of, code_at, map_bytes, method_at, method_in, method_count, methods_from, quick_methods}
 use Rattle.rows.specs.Posting.{Noted}
 use Rattle.verifier.specs.declared.places.Check.{Check}
-use Rattle.verifier.specs.declared.places.Check.TheVariants.{Maps, Types}
+use Rattle.verifier.specs.declared.places.Check.TheVariants.{Types}
 use Rattle.verifier.specs.declared.turns.Step.{Step}
 use Rattle.verifier.specs.declared.turns.Step.TheVariants.{Stop, End, Next}
 use Rattle.verifier.specs.Lookups.{lacking}
 use Rattle.verifier.specs.Types.{entry_of}
 use Rattle.verifier.specs.Trace.{Onward, refused, accepted, onto, onward, Turned, into_turn, turned, Turning, turning, taking}
 use Rattle.verifier.specs.Answers.{next_of}
-use Rattle.definition.specs.Places.{lacks_from, lacks_at, place, Place, first_place}
+use Rattle.definition.specs.Places.{lacks_from, lacks_at, place, first_place}
 use Rattle.verifier.specs.Stops.{stop_at_end, stopping, stops, whole_stop, check_point, check_in}
 use Rattle.verifier.proofs.WalkLaws.{Bound, into-bound}
 

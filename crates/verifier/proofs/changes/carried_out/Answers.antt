@@ -1,7 +1,6 @@
 -- Each effect is carried out by its own function.
 use Rattle.verifier.specs.Effects.{left_by}
 use Rattle.verifier.specs.Answers.{outcome_of}
-use borrow.Author.Rules.{rules}
 use Rattle.verifier.proofs.changes.carried_out.Goals as goal
 
 pub returns-in-Rejected : goal.returns-in-Rejected

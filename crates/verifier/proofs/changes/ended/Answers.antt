@@ -1,11 +1,9 @@
 -- A return that meets the result type leaves the types as they are.
 use mathlib.Core.Path.{sym, ◌∙◌}
-use borrow.Author.Tests.{not-true, not-false}
 use Rattle.definition.specs.Instructions.{pick}
 use Rattle.verifier.specs.Answers.{outcome_of, change_of}
 use Rattle.verifier.specs.Effects.{ending, left_by}
 use Rattle.verifier.proofs.ChangeLaws.{met-notes, unmet-notes, made-alone}
-use borrow.Author.Rules.{rules}
 use Rattle.verifier.proofs.changes.ended.Goals as goal
 
 pub returns-then-not-met : goal.returns-then-not-met

@@ -1,7 +1,6 @@
 -- At most 16 operands are kept.
 use mathlib.Core.Path.{sym, ◌∙◌}
 use Rattle.verifier.proofs.ChangeLaws.{kept_full, kept-fits}
-use borrow.Author.Rules.{rules}
 use Rattle.verifier.proofs.changes.kept.Goals as goal
 
 pub returns-then-d-gt-OPERANDS : goal.returns-then-d-gt-OPERANDS

@@ -1,10 +1,8 @@
 -- The receiver is met, or nothing is left.
 use mathlib.Core.Path.{sym, ◌∙◌}
-use borrow.Author.Tests.{not-true, not-false}
 use Rattle.definition.specs.Instructions.{pick}
 use Rattle.verifier.specs.Answers.{change_of}
 use Rattle.verifier.proofs.ChangeLaws.{unmet-notes, unmet-left, met-left}
-use borrow.Author.Rules.{rules}
 use Rattle.verifier.proofs.changes.left.Goals as goal
 
 pub returns-then-not-met : goal.returns-then-not-met

@@ -1,14 +1,10 @@
 -- The methods are verified one by one. What is left of them, with the notes posted so far, is always the whole class.
-use mathlib.Core.Path.{◌≡◌, refl, sym, ◌∙◌}
+use mathlib.Core.Path.{refl, sym, ◌∙◌}
 use native.Mathlib.Omega.{arith}
-use Prim.Native.Nat.{◌≤◌, ◌<◌, ◌-◌}
-use lib.ListN.{length}
+use Prim.Native.Nat.{◌<◌}
 use borrow.Author.Tests.{not-true, not-false}
-use Rattle.classfile.specs.Reading.{file_version, class_name, method_count, methods_from}
-use Rattle.rows.specs.Posting.{noted}
-use Rattle.verifier.specs.Trace.{methods_trace, class_trace, posting}
+use Rattle.classfile.specs.Reading.{method_count}
 use Rattle.verifier.proofs.ClassLaws.{class-goes, class-stops, class-ends, class-begins}
-use borrow.Author.Rules.{rules}
 use Rattle.verifier.proofs.classes.verify_class.Goals as goal
 
 pub loop-j-init : goal.loop-j-init
@@ -23,12 +19,11 @@ returns-then-not-method c =
     (sym (class-stops _ _ _ _ _ _ _ ((let it : c.loop-j.j < method_count c.args.bytes.now = omega (arith, c.method_count-n.ensures, c.loop-j-test.true) in it)) _ (not-true _ c.if-not-method.true) c.verify_numbered-method.ensures) ∙ c.loop-j.invariant.2)
 
 pub loop-j-preserved : goal.loop-j-preserved
-loop-j-preserved c =
-    (
-      omega arith,
-      c.verify_numbered-method.auto.subtypes ∙ c.loop-j.invariant.1,
-      sym (class-goes _ _ _ _ _ _ _ ((let it : c.loop-j.j < method_count c.args.bytes.now = omega (arith, c.method_count-n.ensures, c.loop-j-test.true) in it)) _ (not-false _ c.if-not-method.false) c.verify_numbered-method.ensures) ∙ c.loop-j.invariant.2,
-    )
+loop-j-preserved c = (
+  omega arith,
+  c.verify_numbered-method.auto.subtypes ∙ c.loop-j.invariant.1,
+  sym (class-goes _ _ _ _ _ _ _ ((let it : c.loop-j.j < method_count c.args.bytes.now = omega (arith, c.method_count-n.ensures, c.loop-j-test.true) in it)) _ (not-false _ c.if-not-method.false) c.verify_numbered-method.ensures) ∙ c.loop-j.invariant.2,
+)
 
 pub returns : goal.returns
 returns c = sym (class-ends _ _ _ _ _ _ (omega (arith, c.method_count-n.ensures, c.loop-j-test.false))) ∙ c.loop-j.invariant.2

@@ -1,13 +1,9 @@
-use mathlib.Core.Path.{◌≡◌, refl, sym, ◌∙◌}
-use native.Mathlib.Omega.{arith}
-use Prim.Native.Nat.{◌≤◌, ◌<◌, ◌-◌}
+use mathlib.Core.Path.{◌≡◌}
+use Prim.Native.Nat.{◌≤◌, ◌-◌}
 use lib.ListN.{length}
-use borrow.Author.Tests.{not-true, not-false}
-use Rattle.classfile.specs.Reading.{file_version, class_name, method_count, methods_from}
+use Rattle.classfile.specs.Reading.{file_version, class_name, methods_from}
 use Rattle.rows.specs.Posting.{noted}
 use Rattle.verifier.specs.Trace.{methods_trace, class_trace, posting}
-use Rattle.verifier.proofs.ClassLaws.{class-goes, class-stops, class-ends, class-begins}
-use borrow.Author.Rules.{rules}
 use Rattle.verifier.proofs.classes.verify_class.Given as goal
 
 abbrev pub invariant-loop-j : goal.invariant-loop-j

@@ -2,7 +2,6 @@
 use mathlib.Core.Path.{sym}
 use Rattle.verifier.proofs.PostingLaws.{posting-same}
 use Rattle.verifier.proofs.ClassLaws.{never-absent, found_at, trace-found}
-use borrow.Author.Rules.{rules}
 use Rattle.verifier.proofs.classes.verify_numbered.Goals as goal
 
 pub returns-in_default : goal.returns-in_default

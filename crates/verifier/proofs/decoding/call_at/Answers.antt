@@ -1,5 +1,4 @@
 -- A count above 4 can't be read; else the names and the types are the inline ones in order.
-use borrow.Author.Rules.{rules}
 use Rattle.verifier.proofs.CallLaws.{call-above, call-read}
 use Rattle.verifier.proofs.decoding.call_at.Goals as goal
 

@@ -3,7 +3,6 @@ use mathlib.Core.Path.{ap, ◌∙◌}
 use Rattle.definition.specs.Instructions.{opcode_of}
 use Rattle.verifier.specs.Decoding.{reading_of}
 use Rattle.verifier.proofs.DecodingLaws.{decode-past, decode-cut, decode-whole}
-use borrow.Author.Rules.{rules}
 use Rattle.verifier.proofs.decoding.decode.Goals as goal
 
 pub returns-then-code-p : goal.returns-then-code-p

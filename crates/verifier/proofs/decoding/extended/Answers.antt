@@ -2,7 +2,6 @@
 use mathlib.Core.Path.{sym, ap, ◌∙◌}
 use Rattle.definition.specs.Instructions.{extend}
 use Rattle.verifier.proofs.DecodingLaws.{extend-low, extend-high}
-use borrow.Author.Rules.{rules}
 use Rattle.verifier.proofs.decoding.extended.Goals as goal
 
 pub returns-then-wide-lt32768 : goal.returns-then-wide-lt32768

@@ -1,6 +1,5 @@
 -- Each opcode's inline length is the definition's.
 use Rattle.definition.specs.Instructions.{inline_length}
-use borrow.Author.Rules.{rules}
 use Rattle.verifier.proofs.decoding.inline_length.Goals as goal
 
 pub returns-in-OpAconstNull : goal.returns-in-OpAconstNull

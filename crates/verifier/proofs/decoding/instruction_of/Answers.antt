@@ -2,7 +2,6 @@
 use Rattle.definition.specs.Instructions.{instruction_of, sized_as}
 use Rattle.verifier.specs.Decoding.{reading_of}
 use Rattle.verifier.proofs.CallLaws.{call-inline, call-list}
-use borrow.Author.Rules.{rules}
 use Rattle.verifier.proofs.decoding.instruction_of.Goals as goal
 
 pub returns-in-OpAconstNull : goal.returns-in-OpAconstNull

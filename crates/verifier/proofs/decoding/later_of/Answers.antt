@@ -1,4 +1,5 @@
 -- Each of the later opcodes is told from the others, and any other byte is unknown; version 1 has none.
+use native.Mathlib.Omega.{arith}
 use borrow.Author.Tests.{ne_eqb, le-leb, lt-leb}
 use Rattle.definition.specs.Instructions.{pick}
 use Rattle.verifier.specs.Decoding.{later_of}
@@ -33,9 +34,9 @@ unfolding later_of pick
 returns-in_default c =
     rw (
       le-leb _ _ c.if-version-lt-VERSION_TWO.false,
-      ne_eqb _ _ c.in_default.in_default-own.rest.0.0.0.0.1,
-      ne_eqb _ _ c.in_default.in_default-own.rest.0.0.0.1,
-      ne_eqb _ _ c.in_default.in_default-own.rest.0.0.1,
-      ne_eqb _ _ c.in_default.in_default-own.rest.0.1,
-      ne_eqb _ _ c.in_default.in_default-own.rest.1,
+      ne_eqb c.args.b 104 (λ e. omega arith),
+      ne_eqb c.args.b 108 (λ e. omega arith),
+      ne_eqb c.args.b 153 (λ e. omega arith),
+      ne_eqb c.args.b 161 (λ e. omega arith),
+      ne_eqb c.args.b 167 (λ e. omega arith),
     )

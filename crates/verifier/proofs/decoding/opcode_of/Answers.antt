@@ -1,8 +1,8 @@
 -- Each opcode byte is told from the others, and any other byte is one of the later opcodes or unknown.
+use native.Mathlib.Omega.{arith}
 use borrow.Author.Tests.{ne_eqb}
 use Rattle.definition.specs.Instructions.{pick, opcode_of}
 use Rattle.verifier.specs.Decoding.{later_of}
-use borrow.Author.Rules.{rules}
 use Rattle.verifier.proofs.decoding.opcode_of.Goals as goal
 
 pub returns-in-1 : goal.returns-in-1
@@ -57,21 +57,21 @@ pub returns-in_default : goal.returns-in_default
 unfolding opcode_of later_of pick
 returns-in_default c =
     rw (
-      ne_eqb _ _ c.in_default.in_default-own.rest.0.0.0.0.0.0.0.0.0.0.0.0.0.0.0.1,
-      ne_eqb _ _ c.in_default.in_default-own.rest.0.0.0.0.0.0.0.0.0.0.0.0.0.0.1,
-      ne_eqb _ _ c.in_default.in_default-own.rest.0.0.0.0.0.0.0.0.0.0.0.0.0.1,
-      ne_eqb _ _ c.in_default.in_default-own.rest.0.0.0.0.0.0.0.0.0.0.0.0.1,
-      ne_eqb _ _ c.in_default.in_default-own.rest.0.0.0.0.0.0.0.0.0.0.0.1,
-      ne_eqb _ _ c.in_default.in_default-own.rest.0.0.0.0.0.0.0.0.0.0.1,
-      ne_eqb _ _ c.in_default.in_default-own.rest.0.0.0.0.0.0.0.0.0.1,
-      ne_eqb _ _ c.in_default.in_default-own.rest.0.0.0.0.0.0.0.0.1,
-      ne_eqb _ _ c.in_default.in_default-own.rest.0.0.0.0.0.0.0.1,
-      ne_eqb _ _ c.in_default.in_default-own.rest.0.0.0.0.0.0.1,
-      ne_eqb _ _ c.in_default.in_default-own.rest.0.0.0.0.0.1,
-      ne_eqb _ _ c.in_default.in_default-own.rest.0.0.0.0.1,
-      ne_eqb _ _ c.in_default.in_default-own.rest.0.0.0.1,
-      ne_eqb _ _ c.in_default.in_default-own.rest.0.0.1,
-      ne_eqb _ _ c.in_default.in_default-own.rest.0.1,
-      ne_eqb _ _ c.in_default.in_default-own.rest.1,
+      ne_eqb c.args.b 1 (λ e. omega arith),
+      ne_eqb c.args.b 17 (λ e. omega arith),
+      ne_eqb c.args.b 21 (λ e. omega arith),
+      ne_eqb c.args.b 25 (λ e. omega arith),
+      ne_eqb c.args.b 54 (λ e. omega arith),
+      ne_eqb c.args.b 58 (λ e. omega arith),
+      ne_eqb c.args.b 87 (λ e. omega arith),
+      ne_eqb c.args.b 89 (λ e. omega arith),
+      ne_eqb c.args.b 96 (λ e. omega arith),
+      ne_eqb c.args.b 100 (λ e. omega arith),
+      ne_eqb c.args.b 180 (λ e. omega arith),
+      ne_eqb c.args.b 181 (λ e. omega arith),
+      ne_eqb c.args.b 182 (λ e. omega arith),
+      ne_eqb c.args.b 187 (λ e. omega arith),
+      ne_eqb c.args.b 172 (λ e. omega arith),
+      ne_eqb c.args.b 176 (λ e. omega arith),
     )
     c.later_of.ensures

@@ -1,6 +1,5 @@
 -- Its names are the inline ones in order.
 use Rattle.definition.specs.Instructions.{instruction_of}
-use borrow.Author.Rules.{rules}
 use Rattle.verifier.proofs.decoding.putfield_at.Goals as goal
 
 pub returns : goal.returns

@@ -1,15 +1,11 @@
 -- The values are met one by one. Whether those that are left are met is always whether all are.
-use mathlib.Core.Path.{◌≡◌, sym, ap, ◌∙◌}
+use mathlib.Core.Path.{sym, ap, ◌∙◌}
 use mathlib.Core.Bool.{Bool}
-use Prim.Native.Nat.{◌≤◌, ◌-◌}
 use native.Mathlib.Omega.{arith}
-use borrow.Author.Tests.{not-true, not-false}
-use Rattle.verifier.specs.Effects.{meet_value}
-use Rattle.verifier.specs.Trace.{Trace, after, meet_from, values_trace}
+use Rattle.verifier.specs.Trace.{Trace, after}
 use Rattle.verifier.proofs.ChangeLaws.{met-notes, unmet-notes}
 use Rattle.verifier.proofs.FlowLaws.{places-end, places-unmet, places-met}
 use Rattle.verifier.proofs.ValueLaws.{values-start}
-use borrow.Author.Rules.{rules}
 use Rattle.verifier.proofs.effects.are_met.Goals as goal
 
 abbrev accepts : Trace → Bool
@@ -25,12 +21,11 @@ returns-then-not-met c =
 
 pub loop-i-preserved : goal.loop-i-preserved
 unfolding after
-loop-i-preserved c =
-    (
-      omega arith,
-      sym (ap accepts (places-met _ _ _ c.loop-i-test.true _ (sym c.meet_value.ensures ∙ met-notes _ (sym c.met.ensures ∙ c.if-not-met.false))))
-          ∙ c.loop-i.invariant.1,
-    )
+loop-i-preserved c = (
+  omega arith,
+  sym (ap accepts (places-met _ _ _ c.loop-i-test.true _ (sym c.meet_value.ensures ∙ met-notes _ (sym c.met.ensures ∙ c.if-not-met.false))))
+      ∙ c.loop-i.invariant.1,
+)
 
 pub returns : goal.returns
 returns c = sym (ap accepts (places-end _ _ _ c.loop-i-test.false)) ∙ c.loop-i.invariant.1

@@ -5,7 +5,6 @@ use Rattle.verifier.specs.Types.{types_of}
 use Rattle.verifier.specs.Effects.{notes_in, going}
 use Rattle.verifier.specs.Trace.{meet_from, values_trace}
 use Rattle.verifier.specs.Answers.{outcome_of}
-use borrow.Author.Rules.{rules}
 use Rattle.verifier.proofs.effects.branch.Goals as goal
 
 pub returns-in-Always : goal.returns-in-Always

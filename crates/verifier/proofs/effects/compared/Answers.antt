@@ -7,7 +7,6 @@ use Rattle.verifier.specs.Effects.{notes_in, going}
 use Rattle.verifier.specs.Trace.{meet_from, values_trace}
 use Rattle.verifier.specs.Answers.{outcome_of}
 use Rattle.verifier.proofs.EffectLaws.{int_is, int-not}
-use borrow.Author.Rules.{rules}
 use Rattle.verifier.proofs.effects.compared.Goals as goal
 
 pub returns-in_default : goal.returns-in_default

@@ -6,7 +6,6 @@ use Rattle.definition.specs.Maybe.{◌>>=◌}
 use Rattle.verifier.specs.Effects.{notes_in, going}
 use Rattle.verifier.specs.Trace.{meet_from, values_trace}
 use Rattle.verifier.specs.Answers.{outcome_of}
-use borrow.Author.Rules.{rules}
 use Rattle.verifier.proofs.effects.drop.Goals as goal
 
 pub returns-in_default : goal.returns-in_default

@@ -2,7 +2,6 @@
 use Rattle.definition.specs.Verifier.{return_kind}
 use Rattle.verifier.specs.Effects.{outcome}
 use Rattle.verifier.proofs.EffectLaws.{pushed-null, pushed-int}
-use borrow.Author.Rules.{rules}
 use Rattle.verifier.proofs.effects.effect_of.Goals as goal
 
 pub returns-in-AconstNull : goal.returns-in-AconstNull

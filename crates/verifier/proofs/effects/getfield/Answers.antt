@@ -1,6 +1,5 @@
 -- A receiver goes and the field type comes.
 use mathlib.Core.Path.{sym, ◌∙◌}
-use borrow.Author.Tests.{not-true, not-false}
 use Rattle.definition.specs.Verifier.{effect}
 use Rattle.verifier.specs.Types.{types_of}
 use Rattle.verifier.proofs.TypeLaws.{popped-empty, popped-top}
@@ -8,7 +7,6 @@ use Rattle.definition.specs.Maybe.{◌>>=◌, need}
 use Rattle.verifier.specs.Effects.{going}
 use Rattle.verifier.specs.Answers.{outcome_of}
 use Rattle.verifier.proofs.EffectLaws.{pushed-alone}
-use borrow.Author.Rules.{rules}
 use Rattle.verifier.proofs.effects.getfield.Goals as goal
 
 pub returns-then-not-named : goal.returns-then-not-named

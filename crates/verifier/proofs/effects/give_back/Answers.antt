@@ -7,7 +7,6 @@ use Rattle.verifier.specs.Effects.{ending}
 use Rattle.verifier.specs.Answers.{outcome_of}
 use mathlib.Core.Path.{sym}
 use Rattle.verifier.proofs.EffectLaws.{of-kind, off-kind}
-use borrow.Author.Rules.{rules}
 use mathlib.Core.Path.{ap}
 use mathlib.Core.Bool.{not}
 use Rattle.verifier.proofs.effects.give_back.Goals as goal

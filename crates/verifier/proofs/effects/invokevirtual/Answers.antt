@@ -1,14 +1,13 @@
 -- The arguments and the receiver below them go, and the result type comes.
 use mathlib.Core.Path.{refl, sym, ◌∙◌}
 use native.Mathlib.Omega.{arith}
-use borrow.Author.Tests.{lt-leb, le-leb, not-true, not-false}
+use borrow.Author.Tests.{lt-leb, le-leb}
 use Rattle.definition.specs.Verifier.{effect}
 use Rattle.verifier.specs.Types.{types_of}
 use Rattle.verifier.proofs.ValueLaws.{call-few, call-unmet, call_met}
 use Rattle.definition.specs.Maybe.{◌>>=◌, need}
 use Rattle.verifier.specs.Effects.{going}
 use Rattle.verifier.specs.Answers.{outcome_of}
-use borrow.Author.Rules.{rules}
 use Rattle.verifier.proofs.effects.invokevirtual.Goals as goal
 
 pub returns-then-c-lt-NAME_OBJECT : goal.returns-then-c-lt-NAME_OBJECT

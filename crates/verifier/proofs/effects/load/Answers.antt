@@ -5,7 +5,6 @@ use Rattle.verifier.specs.Effects.{notes_in, going}
 use Rattle.verifier.specs.Trace.{meet_from, values_trace}
 use Rattle.verifier.specs.Answers.{outcome_of}
 use Rattle.verifier.proofs.EffectLaws.{of-kind, off-kind, load-unset, load_set}
-use borrow.Author.Rules.{rules}
 use mathlib.Core.Path.{ap}
 use mathlib.Core.Bool.{not}
 use Rattle.verifier.proofs.effects.load.Goals as goal

@@ -4,7 +4,6 @@ use Rattle.definition.specs.Verifier.{meet_class}
 use Rattle.verifier.proofs.TypeLaws.{type-int, type-null, type-class}
 use Rattle.verifier.specs.Effects.{notes_in}
 use Rattle.verifier.proofs.EffectLaws.{class_same, class-other}
-use borrow.Author.Rules.{rules}
 use Rattle.verifier.proofs.effects.meet_class.Goals as goal
 
 pub returns-then-t-eq-INT : goal.returns-then-t-eq-INT

@@ -1,7 +1,6 @@
 -- Name 1 demands int; any other is a class.
 use mathlib.Core.Path.{sym, ◌∙◌}
 use Rattle.verifier.proofs.EffectLaws.{meets-int, meets-class}
-use borrow.Author.Rules.{rules}
 use Rattle.verifier.proofs.effects.meet_name.Goals as goal
 
 pub returns-then-b-eq1 : goal.returns-then-b-eq1

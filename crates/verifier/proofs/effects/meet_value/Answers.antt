@@ -1,7 +1,6 @@
 -- The value is looked up, and its name.
 use Rattle.verifier.specs.Types.{operand_at}
 use Rattle.verifier.specs.Effects.{meet_value}
-use borrow.Author.Rules.{rules}
 use Rattle.verifier.proofs.effects.meet_value.Goals as goal
 
 pub returns : goal.returns

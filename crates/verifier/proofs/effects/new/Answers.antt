@@ -7,7 +7,6 @@ use Rattle.definition.specs.Maybe.{◌>>=◌, need}
 use Rattle.verifier.specs.Effects.{notes_in, going}
 use Rattle.verifier.specs.Trace.{meet_from, values_trace}
 use Rattle.verifier.specs.Answers.{outcome_of}
-use borrow.Author.Rules.{rules}
 use Rattle.verifier.proofs.effects.new.Goals as goal
 
 pub returns-then-c-lt-NAME_OBJECT : goal.returns-then-c-lt-NAME_OBJECT

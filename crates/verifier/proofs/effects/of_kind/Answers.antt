@@ -1,6 +1,5 @@
 -- Int alone is of int's kind, and every other type a reference's.
 use Rattle.verifier.proofs.EffectLaws.{int-kind, reference-kind}
-use borrow.Author.Rules.{rules}
 use Rattle.verifier.proofs.effects.of_kind.Goals as goal
 
 pub returns-in-IntKind : goal.returns-in-IntKind

@@ -1,6 +1,5 @@
 -- A value and a receiver go.
 use mathlib.Core.Path.{sym, ap, ◌∙◌}
-use borrow.Author.Tests.{not-true, not-false}
 use Rattle.definition.specs.Verifier.{effect, meet_class}
 use Rattle.verifier.specs.Types.{type_of, types_of}
 use Rattle.verifier.proofs.TypeLaws.{popped-empty, popped-top}
@@ -9,7 +8,6 @@ use Rattle.definition.specs.Maybe.{◌>>=◌, need}
 use Rattle.verifier.specs.Effects.{going}
 use Rattle.verifier.specs.Trace.{granted}
 use Rattle.verifier.specs.Answers.{outcome_of}
-use borrow.Author.Rules.{rules}
 use Rattle.verifier.proofs.effects.putfield.Goals as goal
 
 pub returns-then-not-named : goal.returns-then-not-named

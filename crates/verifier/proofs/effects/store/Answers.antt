@@ -6,7 +6,6 @@ use Rattle.definition.specs.Maybe.{◌>>=◌}
 use Rattle.verifier.specs.Effects.{going}
 use Rattle.verifier.specs.Answers.{outcome_of}
 use Rattle.verifier.proofs.EffectLaws.{of-kind, off-kind}
-use borrow.Author.Rules.{rules}
 use mathlib.Core.Path.{ap}
 use mathlib.Core.Bool.{not}
 use Rattle.verifier.proofs.effects.store.Goals as goal

@@ -1,6 +1,5 @@
 -- The answer and the count are kept.
 use mathlib.Core.Path.{refl}
-use borrow.Author.Rules.{rules}
 use Rattle.verifier.proofs.flows.begun.Goals as goal
 
 pub returns-then-near-places : goal.returns-then-near-places

@@ -2,7 +2,6 @@
 use Rattle.verifier.specs.Trace.{fits}
 use Rattle.classfile.specs.Reading.{map_of, map_depth, type_at}
 use Rattle.layout.specs.Places.{rows-length}
-use borrow.Author.Rules.{rules}
 use Rattle.verifier.proofs.flows.is_fitting.Goals as goal
 
 pub returns : goal.returns

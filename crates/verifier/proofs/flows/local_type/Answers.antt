@@ -5,7 +5,6 @@ use Rattle.definition.specs.Instructions.{pick}
 use Rattle.definition.specs.Verifier.{local_type}
 use Rattle.verifier.specs.Types.{local_of}
 use Rattle.verifier.proofs.TypeLaws.{local-set}
-use borrow.Author.Rules.{rules}
 use Rattle.verifier.proofs.flows.local_type.Goals as goal
 
 pub returns-then-n-eq0 : goal.returns-then-n-eq0

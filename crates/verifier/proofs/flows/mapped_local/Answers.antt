@@ -1,7 +1,6 @@
 -- The type is looked up and taken as a local holds it.
 use mathlib.Core.Path.{ap, ◌∙◌}
 use Rattle.definition.specs.Verifier.{local_type}
-use borrow.Author.Rules.{rules}
 use Rattle.verifier.proofs.flows.mapped_local.Goals as goal
 
 pub returns : goal.returns

@@ -2,7 +2,6 @@
 use Rattle.definition.specs.Lists.{rows}
 use Rattle.classfile.specs.Reading.{map_of}
 use Rattle.verifier.specs.Types.{local_at, locals_of}
-use borrow.Author.Rules.{rules}
 use Rattle.verifier.proofs.flows.mapped_locals.Goals as goal
 
 pub returns : goal.returns

@@ -1,13 +1,11 @@
 -- Before operand i is set, those below it are the map's.
-use Prim.Native.Nat.{ℕ, ◌+◌, ◌-◌, ◌≤◌, ◌<◌}
-use mathlib.Core.Path.{◌≡◌, refl, ap, ◌∙◌}
+use Prim.Native.Nat.{ℕ}
+use mathlib.Core.Path.{refl, ap, ◌∙◌}
 use native.Mathlib.Omega.{arith}
-use lib.ListN.{length, length-set}
+use lib.ListN.{length-set}
 use Rattle.definition.specs.Verifier.{type_of_name}
 use Rattle.classfile.specs.Reading.{type_at}
-use Rattle.verifier.specs.Types.{operand_at}
 use Rattle.verifier.proofs.FlowLaws.{operand-set}
-use borrow.Author.Rules.{rules}
 use Rattle.verifier.proofs.flows.mapped_operands.Goals as goal
 
 pub loop-i-init : goal.loop-i-init

@@ -1,12 +1,9 @@
 use Prim.Native.Nat.{ℕ, ◌+◌, ◌-◌, ◌≤◌, ◌<◌}
-use mathlib.Core.Path.{◌≡◌, refl, ap, ◌∙◌}
-use native.Mathlib.Omega.{arith}
-use lib.ListN.{length, length-set}
+use mathlib.Core.Path.{◌≡◌}
+use lib.ListN.{length}
 use Rattle.definition.specs.Verifier.{type_of_name}
 use Rattle.classfile.specs.Reading.{type_at}
 use Rattle.verifier.specs.Types.{operand_at}
-use Rattle.verifier.proofs.FlowLaws.{operand-set}
-use borrow.Author.Rules.{rules}
 use Rattle.verifier.proofs.flows.mapped_operands.Given as goal
 
 abbrev pub invariant-loop-i : goal.invariant-loop-i

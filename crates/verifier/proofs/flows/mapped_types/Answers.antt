@@ -2,7 +2,6 @@
 use native.Mathlib.Omega.{arith}
 use Rattle.verifier.specs.Types.{types_of}
 use Rattle.verifier.proofs.FlowLaws.{operands-mapped}
-use borrow.Author.Rules.{rules}
 use Rattle.verifier.proofs.flows.mapped_types.Goals as goal
 
 pub mapped_operands-operands-requires : goal.mapped_operands-operands-requires

@@ -6,7 +6,6 @@ use Rattle.definition.specs.Verifier.{meet_local}
 use Rattle.verifier.specs.Types.{local_of}
 use Rattle.verifier.specs.Effects.{notes_in}
 use Rattle.verifier.proofs.TypeLaws.{local-set}
-use borrow.Author.Rules.{rules}
 use Rattle.verifier.proofs.flows.meet_local.Goals as goal
 
 pub returns-then-n-eq0 : goal.returns-then-n-eq0

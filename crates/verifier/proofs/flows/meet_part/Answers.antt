@@ -1,15 +1,8 @@
 -- The places are met one by one. What is left of them, with the notes posted so far, is always the whole part.
-use mathlib.Core.Path.{◌≡◌, refl, sym, ◌∙◌}
-use Prim.Native.Nat.{◌≤◌, ◌-◌}
+use mathlib.Core.Path.{refl, sym, ◌∙◌}
 use native.Mathlib.Omega.{arith}
-use lib.ListN.{length}
-use borrow.Author.Tests.{not-true, not-false}
-use Rattle.rows.specs.Posting.{noted}
-use Rattle.verifier.specs.Trace.{posting, meet_from}
-use Rattle.verifier.specs.Answers.{meet_at}
 use Rattle.verifier.proofs.ChangeLaws.{met-notes, unmet-notes}
 use Rattle.verifier.proofs.FlowLaws.{meet-start, meet-end, meet-unmet, meet-met}
-use borrow.Author.Rules.{rules}
 use Rattle.verifier.proofs.flows.meet_part.Goals as goal
 
 pub loop-i-init : goal.loop-i-init

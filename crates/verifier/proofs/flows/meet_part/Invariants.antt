@@ -1,14 +1,9 @@
-use mathlib.Core.Path.{◌≡◌, refl, sym, ◌∙◌}
+use mathlib.Core.Path.{◌≡◌}
 use Prim.Native.Nat.{◌≤◌, ◌-◌}
-use native.Mathlib.Omega.{arith}
 use lib.ListN.{length}
-use borrow.Author.Tests.{not-true, not-false}
 use Rattle.rows.specs.Posting.{noted}
 use Rattle.verifier.specs.Trace.{posting, meet_from}
 use Rattle.verifier.specs.Answers.{meet_at}
-use Rattle.verifier.proofs.ChangeLaws.{met-notes, unmet-notes}
-use Rattle.verifier.proofs.FlowLaws.{meet-start, meet-end, meet-unmet, meet-met}
-use borrow.Author.Rules.{rules}
 use Rattle.verifier.proofs.flows.meet_part.Given as goal
 
 abbrev pub invariant-loop-i : goal.invariant-loop-i

@@ -1,7 +1,6 @@
 -- A local or an operand, by the part.
 use Rattle.verifier.specs.Types.{local_at, operand_at}
 use Rattle.verifier.specs.Answers.{meet_at}
-use borrow.Author.Rules.{rules}
 use Rattle.verifier.proofs.flows.meet_place.Goals as goal
 
 pub returns-in-Locals : goal.returns-in-Locals

@@ -1,16 +1,9 @@
 -- The values are met one by one. What is left of them, with the notes posted so far, is always the whole.
-use mathlib.Core.Path.{◌≡◌, refl, sym, ◌∙◌}
-use Prim.Native.Nat.{◌≤◌, ◌-◌}
+use mathlib.Core.Path.{refl, sym, ◌∙◌}
 use native.Mathlib.Omega.{arith}
-use lib.ListN.{length}
-use borrow.Author.Tests.{not-true, not-false}
-use Rattle.rows.specs.Posting.{noted}
-use Rattle.verifier.specs.Effects.{meet_value}
-use Rattle.verifier.specs.Trace.{posting, meet_from, values_trace}
 use Rattle.verifier.proofs.ChangeLaws.{met-notes, unmet-notes}
 use Rattle.verifier.proofs.FlowLaws.{meet-end, meet-unmet, meet-met}
 use Rattle.verifier.proofs.ValueLaws.{values-posted}
-use borrow.Author.Rules.{rules}
 use Rattle.verifier.proofs.flows.meet_values.Goals as goal
 
 pub loop-i-init : goal.loop-i-init

@@ -1,15 +1,9 @@
-use mathlib.Core.Path.{◌≡◌, refl, sym, ◌∙◌}
+use mathlib.Core.Path.{◌≡◌}
 use Prim.Native.Nat.{◌≤◌, ◌-◌}
-use native.Mathlib.Omega.{arith}
 use lib.ListN.{length}
-use borrow.Author.Tests.{not-true, not-false}
 use Rattle.rows.specs.Posting.{noted}
 use Rattle.verifier.specs.Effects.{meet_value}
 use Rattle.verifier.specs.Trace.{posting, meet_from, values_trace}
-use Rattle.verifier.proofs.ChangeLaws.{met-notes, unmet-notes}
-use Rattle.verifier.proofs.FlowLaws.{meet-end, meet-unmet, meet-met}
-use Rattle.verifier.proofs.ValueLaws.{values-posted}
-use borrow.Author.Rules.{rules}
 use Rattle.verifier.proofs.flows.meet_values.Given as goal
 
 abbrev pub invariant-loop-i : goal.invariant-loop-i

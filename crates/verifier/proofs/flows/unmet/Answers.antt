@@ -1,6 +1,5 @@
 -- As it is written.
 use mathlib.Core.Path.{refl}
-use borrow.Author.Rules.{rules}
 use Rattle.verifier.proofs.flows.unmet.Goals as goal
 
 pub returns : goal.returns

@@ -1,6 +1,5 @@
 -- The table has the points that it reaches.
 use Rattle.verifier.specs.Lookups.{Indexed}
-use borrow.Author.Rules.{rules}
 use Rattle.verifier.proofs.lookups.find_map.Goals as goal
 
 pub returns-then-q-places : goal.returns-then-q-places

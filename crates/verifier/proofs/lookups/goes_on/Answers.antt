@@ -1,6 +1,5 @@
 -- Each instruction goes on, but for a goto and a return.
 use Rattle.definition.specs.Verifier.{goes_on}
-use borrow.Author.Rules.{rules}
 use Rattle.verifier.proofs.lookups.goes_on.Goals as goal
 
 pub returns-in-AconstNull : goal.returns-in-AconstNull

@@ -1,10 +1,8 @@
 -- Before map i is looked at, its place is known, and the table has the maps before it.
-use Prim.Native.Nat.{◌+◌, ◌-◌, ◌*◌, ◌≤◌}
-use mathlib.Core.Path.{◌≡◌, sym, ◌∙◌}
+use mathlib.Core.Path.{sym, ◌∙◌}
 use native.Mathlib.Omega.{arith}
-use lib.ListN.{length}
-use Rattle.classfile.specs.Reading.{map_count, map_of, map_place}
-use Rattle.verifier.proofs.LookupLaws.{map_next, IndexedTo, indexed-none, placed-length, indexed-more, indexed-all}
+use Rattle.classfile.specs.Reading.{map_of, map_place}
+use Rattle.verifier.proofs.LookupLaws.{map_next, indexed-none, placed-length, indexed-more, indexed-all}
 use borrow.Author.Rules.{rules}
 use Rattle.verifier.proofs.lookups.index_maps.Goals as goal
 

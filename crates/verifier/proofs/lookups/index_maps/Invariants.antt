@@ -1,10 +1,8 @@
 use Prim.Native.Nat.{◌+◌, ◌-◌, ◌*◌, ◌≤◌}
-use mathlib.Core.Path.{◌≡◌, sym, ◌∙◌}
-use native.Mathlib.Omega.{arith}
+use mathlib.Core.Path.{◌≡◌}
 use lib.ListN.{length}
-use Rattle.classfile.specs.Reading.{map_count, map_of, map_place}
-use Rattle.verifier.proofs.LookupLaws.{map_next, IndexedTo, indexed-none, placed-length, indexed-more, indexed-all}
-use borrow.Author.Rules.{rules}
+use Rattle.classfile.specs.Reading.{map_count, map_place}
+use Rattle.verifier.proofs.LookupLaws.{IndexedTo}
 use Rattle.verifier.proofs.lookups.index_maps.Given as goal
 
 abbrev pub invariant-loop-i : goal.invariant-loop-i

@@ -1,6 +1,5 @@
 -- A place that is 0 is none.
 use Rattle.verifier.proofs.LookupLaws.{bare}
-use borrow.Author.Rules.{rules}
 use Rattle.verifier.proofs.lookups.is_bare.Goals as goal
 
 pub returns : goal.returns

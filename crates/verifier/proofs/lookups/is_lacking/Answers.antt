@@ -1,7 +1,6 @@
 -- The point itself first, then the target.
 use mathlib.Core.Path.{sym, ◌∙◌}
 use Rattle.verifier.specs.Lookups.{lacking}
-use borrow.Author.Rules.{rules}
 use Rattle.verifier.proofs.lookups.is_lacking.Goals as goal
 
 pub returns-then-is_wanting : goal.returns-then-is_wanting

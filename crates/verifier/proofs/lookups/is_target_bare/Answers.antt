@@ -3,7 +3,6 @@ use mathlib.Core.Path.{sym, ap, ◌∙◌}
 use Rattle.definition.specs.Lists.{any, to_list}
 use Rattle.verifier.specs.Lookups.{target_of}
 use Rattle.verifier.proofs.LookupLaws.{any-one}
-use borrow.Author.Rules.{rules}
 use Rattle.verifier.proofs.lookups.is_target_bare.Goals as goal
 
 pub returns-in-To : goal.returns-in-To

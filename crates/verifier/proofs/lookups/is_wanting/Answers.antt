@@ -1,5 +1,4 @@
 -- A map is looked up where one is wanted.
-use borrow.Author.Rules.{rules}
 use Rattle.verifier.proofs.lookups.is_wanting.Goals as goal
 
 pub returns-then-wants : goal.returns-then-wants

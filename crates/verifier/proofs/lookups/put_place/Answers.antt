@@ -4,7 +4,6 @@ use lib.Seq.{set_out}
 use borrow.Author.Tests.{eq-eqb, ne_eqb}
 use Rattle.definition.specs.Instructions.{pick}
 use Rattle.verifier.proofs.LookupLaws.{pick_same}
-use borrow.Author.Rules.{rules}
 use Rattle.verifier.proofs.lookups.put_place.Goals as goal
 
 pub returns-then-places-q-eq0 : goal.returns-then-places-q-eq0

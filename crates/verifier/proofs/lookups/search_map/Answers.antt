@@ -1,14 +1,10 @@
 -- Before map i is looked at, its place is known, and the maps from i on have the map that all have.
-use Prim.Native.Nat.{◌+◌, ◌-◌, ◌*◌, ◌≤◌}
-use mathlib.Core.Path.{◌≡◌, sym, ◌∙◌}
+use mathlib.Core.Path.{sym, ◌∙◌}
 use native.Mathlib.Omega.{arith}
 use Rattle.definition.specs.Instructions.{pick}
-use Rattle.definition.specs.Lists.{rows}
-use Rattle.definition.specs.Verifier.{map_at}
-use Rattle.classfile.specs.Reading.{map_of, map_place, map_numbered, maps_of}
+use Rattle.classfile.specs.Reading.{map_of, map_place}
 use Rattle.verifier.specs.Lookups.{map_there}
 use Rattle.verifier.proofs.LookupLaws.{map_next, found-start, found_here, found-later, found-never}
-use borrow.Author.Rules.{rules}
 use Rattle.verifier.proofs.lookups.search_map.Goals as goal
 
 pub loop-i-init : goal.loop-i-init

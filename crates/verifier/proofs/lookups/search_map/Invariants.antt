@@ -1,13 +1,8 @@
 use Prim.Native.Nat.{◌+◌, ◌-◌, ◌*◌, ◌≤◌}
-use mathlib.Core.Path.{◌≡◌, sym, ◌∙◌}
-use native.Mathlib.Omega.{arith}
-use Rattle.definition.specs.Instructions.{pick}
+use mathlib.Core.Path.{◌≡◌}
 use Rattle.definition.specs.Lists.{rows}
 use Rattle.definition.specs.Verifier.{map_at}
-use Rattle.classfile.specs.Reading.{map_of, map_place, map_numbered, maps_of}
-use Rattle.verifier.specs.Lookups.{map_there}
-use Rattle.verifier.proofs.LookupLaws.{map_next, found-start, found_here, found-later, found-never}
-use borrow.Author.Rules.{rules}
+use Rattle.classfile.specs.Reading.{map_place, map_numbered, maps_of}
 use Rattle.verifier.proofs.lookups.search_map.Given as goal
 
 abbrev pub invariant-loop-i : goal.invariant-loop-i

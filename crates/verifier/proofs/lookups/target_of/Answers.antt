@@ -1,7 +1,6 @@
 -- A branch has a target.
 use Rattle.definition.specs.Verifier.{target}
 use Rattle.verifier.specs.Lookups.{target_of}
-use borrow.Author.Rules.{rules}
 use Rattle.verifier.proofs.lookups.target_of.Goals as goal
 
 pub returns-in-AconstNull : goal.returns-in-AconstNull

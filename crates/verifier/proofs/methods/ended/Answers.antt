@@ -1,6 +1,5 @@
 -- The maps left are as many as lie behind map j.
 use Rattle.verifier.proofs.PassLaws.{left-none}
-use borrow.Author.Rules.{rules}
 use Rattle.verifier.proofs.methods.ended.Goals as goal
 
 pub returns : goal.returns

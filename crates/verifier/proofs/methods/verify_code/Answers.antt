@@ -1,6 +1,5 @@
 -- The flow from entry first; it goes to point 0, from which the walk goes on, or nowhere.
 use Rattle.verifier.proofs.WalkLaws.{entry-goes, entry-stops, entry-ends}
-use borrow.Author.Rules.{rules}
 use Rattle.verifier.proofs.methods.verify_code.Goals as goal
 
 pub returns-in-Next : goal.returns-in-Next

@@ -1,15 +1,11 @@
 -- The walk is taken turn by turn, the quiet ones in a row first. What is left of it, with the notes posted so far, is always the whole walk.
-use mathlib.Core.Path.{◌≡◌, refl, sym, ap, ◌∙◌}
+use mathlib.Core.Path.{refl, sym, ap, ◌∙◌}
 use mathlib.Core.List.{[]}
 use native.Mathlib.Omega.{arith}
-use lib.ListN.{length}
-use Rattle.classfile.specs.Reading.{maps_of, map_place}
-use Rattle.rows.specs.Posting.{noted}
+use Rattle.classfile.specs.Reading.{map_place}
 use Rattle.verifier.specs.Types.{types_of}
-use Rattle.verifier.specs.Trace.{trace, left_from, posting}
-use Rattle.verifier.specs.Answers.{PlaceOf, next_of}
+use Rattle.verifier.specs.Answers.{next_of}
 use Rattle.verifier.proofs.WalkLaws.{left-all, passed-inside, passed_to, walk-out, walk_inside, walk-stop, walk_end, walk-next, ran}
-use borrow.Author.Rules.{rules}
 use Rattle.verifier.proofs.methods.walk.Goals as goal
 
 pub loop-left-init : goal.loop-left-init

@@ -1,14 +1,10 @@
-use mathlib.Core.Path.{◌≡◌, refl, sym, ap, ◌∙◌}
-use mathlib.Core.List.{[]}
-use native.Mathlib.Omega.{arith}
+use mathlib.Core.Path.{◌≡◌}
 use lib.ListN.{length}
-use Rattle.classfile.specs.Reading.{maps_of, map_place}
+use Rattle.classfile.specs.Reading.{maps_of}
 use Rattle.rows.specs.Posting.{noted}
 use Rattle.verifier.specs.Types.{types_of}
 use Rattle.verifier.specs.Trace.{trace, left_from, posting}
-use Rattle.verifier.specs.Answers.{PlaceOf, next_of}
-use Rattle.verifier.proofs.WalkLaws.{left-all, passed-inside, passed_to, walk-out, walk_inside, walk-stop, walk_end, walk-next, ran}
-use borrow.Author.Rules.{rules}
+use Rattle.verifier.specs.Answers.{PlaceOf}
 use Rattle.verifier.proofs.methods.walk.Given as goal
 
 abbrev pub invariant-loop-left : goal.invariant-loop-left

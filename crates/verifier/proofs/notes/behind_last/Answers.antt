@@ -1,8 +1,6 @@
 -- A row that has it is one of the first.
-use Prim.Native.Nat.{◌≤◌}
 use native.Mathlib.Omega.{arith}
 use Rattle.verifier.proofs.NoteLaws.{any_at}
-use borrow.Author.Rules.{rules}
 use Rattle.verifier.proofs.notes.behind_last.Goals as goal
 
 pub loop-i-init : goal.loop-i-init

@@ -1,7 +1,4 @@
 use Prim.Native.Nat.{◌≤◌}
-use native.Mathlib.Omega.{arith}
-use Rattle.verifier.proofs.NoteLaws.{any_at}
-use borrow.Author.Rules.{rules}
 use Rattle.verifier.proofs.notes.behind_last.Given as goal
 
 abbrev pub invariant-loop-i : goal.invariant-loop-i

@@ -1,6 +1,5 @@
 -- The row that was looked at first, or the last that has it.
 use Rattle.verifier.proofs.NoteLaws.{any_at}
-use borrow.Author.Rules.{rules}
 use Rattle.verifier.proofs.notes.behind_note.Goals as goal
 
 pub returns-then-is_row : goal.returns-then-is_row

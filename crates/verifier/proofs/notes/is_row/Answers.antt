@@ -1,12 +1,11 @@
 -- The part of the table is the row alone.
 use mathlib.Core.Bool.{false≢true}
-use mathlib.Core.Path.{refl, sym, ap, ◌∙◌}
+use mathlib.Core.Path.{sym, ap, ◌∙◌}
 use Prim.Native.Nat.{ℕ, ◌+◌, ◌*◌, ◌-◌}
 use native.Mathlib.Omega.{arith}
 use Rattle.definition.specs.Loading.{subtype_is}
 use Rattle.rows.specs.Posting.{note}
 use Rattle.verifier.proofs.NoteLaws.{row-alone}
-use borrow.Author.Rules.{rules}
 use Rattle.verifier.proofs.notes.is_row.Goals as goal
 
 pub returns-then-subtypes-end : goal.returns-then-subtypes-end

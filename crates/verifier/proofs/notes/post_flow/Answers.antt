@@ -2,7 +2,6 @@
 use mathlib.Core.Path.{refl}
 use Rattle.rows.specs.Posting.{post_notes}
 use Rattle.verifier.specs.Answers.{made}
-use borrow.Author.Rules.{rules}
 use Rattle.verifier.proofs.notes.post_flow.Goals as goal
 
 pub returns-in-Unmet : goal.returns-in-Unmet

@@ -1,6 +1,5 @@
 -- Nothing is posted where the note is there.
 use Rattle.verifier.proofs.NoteLaws.{post-there}
-use borrow.Author.Rules.{rules}
 use Rattle.verifier.proofs.notes.post_near.Goals as goal
 
 pub returns-then-behind-gt0 : goal.returns-then-behind-gt0

@@ -1,6 +1,5 @@
 -- Each check by its own function.
 use Rattle.verifier.specs.Stops.{check_point}
-use borrow.Author.Rules.{rules}
 use Rattle.verifier.proofs.places.check_code.Goals as goal
 
 pub returns-in-Maps : goal.returns-in-Maps

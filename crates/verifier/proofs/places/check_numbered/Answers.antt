@@ -2,7 +2,6 @@
 use mathlib.Core.Path.{◌∙◌}
 use Rattle.verifier.proofs.ClassLaws.{never-absent, found_at}
 use Rattle.verifier.proofs.StopLaws.{check-found}
-use borrow.Author.Rules.{rules}
 use Rattle.verifier.proofs.places.check_numbered.Goals as goal
 
 pub returns-in_default : goal.returns-in_default

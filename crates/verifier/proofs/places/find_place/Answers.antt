@@ -1,12 +1,7 @@
 -- Before method j is checked, the first place from there on is the first of all.
-use mathlib.Core.Path.{◌≡◌, refl, sym, ap, ◌∙◌}
-use Prim.Native.Nat.{◌-◌}
-use native.Mathlib.Omega.{arith}
-use Rattle.classfile.specs.Reading.{file_version, class_name, method_count, methods_from, quick_methods}
-use Rattle.definition.specs.Places.{first_place}
-use Rattle.verifier.specs.Stops.{point_of, place_of, check_in}
+use mathlib.Core.Path.{sym, ap, ◌∙◌}
+use Rattle.verifier.specs.Stops.{point_of, place_of}
 use Rattle.verifier.proofs.StopLaws.{place-begins, place-ends, place-hit, place-on}
-use borrow.Author.Rules.{rules}
 use Rattle.verifier.proofs.places.find_place.Goals as goal
 
 pub loop-j-init : goal.loop-j-init

@@ -1,11 +1,8 @@
-use mathlib.Core.Path.{◌≡◌, refl, sym, ap, ◌∙◌}
+use mathlib.Core.Path.{◌≡◌}
 use Prim.Native.Nat.{◌-◌}
-use native.Mathlib.Omega.{arith}
 use Rattle.classfile.specs.Reading.{file_version, class_name, method_count, methods_from, quick_methods}
 use Rattle.definition.specs.Places.{first_place}
-use Rattle.verifier.specs.Stops.{point_of, place_of, check_in}
-use Rattle.verifier.proofs.StopLaws.{place-begins, place-ends, place-hit, place-on}
-use borrow.Author.Rules.{rules}
+use Rattle.verifier.specs.Stops.{check_in}
 use Rattle.verifier.proofs.places.find_place.Given as goal
 
 abbrev pub invariant-loop-j : goal.invariant-loop-j

@@ -1,13 +1,10 @@
 -- Where the code from point p on lacks a map, all of it does first.
-use mathlib.Core.Path.{◌≡◌, refl, sym, ap, ◌∙◌}
+use mathlib.Core.Path.{sym, ap, ◌∙◌}
 use native.Mathlib.Omega.{arith}
-use Rattle.classfile.specs.Reading.{maps_of}
 use Rattle.verifier.specs.Decoding.{decoded_of}
-use Rattle.definition.specs.Places.{lacks_from, lacks_at}
 use Rattle.verifier.specs.Stops.{point_of}
 use Rattle.verifier.proofs.DecodingLaws.{decode_is, decode-at, at-within}
 use Rattle.verifier.proofs.StopLaws.{lack-out, lack-unread, lack-here, lack-on, lack-early, lack-late}
-use borrow.Author.Rules.{rules}
 use Rattle.verifier.proofs.places.lack_of.Goals as goal
 
 pub returns-then-version-lt-VERSION_TWO : goal.returns-then-version-lt-VERSION_TWO

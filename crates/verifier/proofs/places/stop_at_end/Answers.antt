@@ -8,7 +8,6 @@ use Rattle.classfile.specs.Reading.{map_count}
 use Rattle.verifier.specs.Stops.{point_of}
 use Rattle.verifier.proofs.PassLaws.{left-none}
 use Rattle.verifier.proofs.StopLaws.{at-end}
-use borrow.Author.Rules.{rules}
 use Rattle.verifier.proofs.places.stop_at_end.Goals as goal
 
 pub returns-then-map_count-j : goal.returns-then-map_count-j

@@ -1,7 +1,6 @@
 -- The flow from entry goes to point 0, from which the walk goes on, or nowhere.
 use Rattle.verifier.specs.Stops.{point_of}
 use Rattle.verifier.proofs.StopLaws.{next-is, entry-on, entry-stop, entry-end}
-use borrow.Author.Rules.{rules}
 use Rattle.verifier.proofs.places.stop_of.Goals as goal
 
 pub returns-in-Next : goal.returns-in-Next

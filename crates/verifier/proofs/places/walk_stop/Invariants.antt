@@ -1,15 +1,10 @@
-use mathlib.Core.Path.{◌≡◌, refl, sym, ap, ◌∙◌}
-use mathlib.Core.List.{[]}
-use native.Mathlib.Omega.{arith}
+use mathlib.Core.Path.{◌≡◌}
 use lib.ListN.{length}
-use Rattle.classfile.specs.Reading.{maps_of, map_place}
+use Rattle.classfile.specs.Reading.{maps_of}
 use Rattle.verifier.specs.Types.{types_of}
 use Rattle.verifier.specs.Trace.{left_from}
-use Rattle.verifier.specs.Answers.{PlaceOf, next_of}
-use Rattle.verifier.specs.Stops.{point_of, stops}
-use Rattle.verifier.proofs.WalkLaws.{left-all, passed-inside, passed_to}
-use Rattle.verifier.proofs.StopLaws.{next-is, stop-out, stop-inside, stop-stop, stop-end, stop-next}
-use borrow.Author.Rules.{rules}
+use Rattle.verifier.specs.Answers.{PlaceOf}
+use Rattle.verifier.specs.Stops.{stops}
 use Rattle.verifier.proofs.places.walk_stop.Given as goal
 
 abbrev pub invariant-loop-left : goal.invariant-loop-left

@@ -1,9 +1,8 @@
 -- Met without a note, and no names.
 use mathlib.Core.Bool.{false≢true}
-use mathlib.Core.Path.{◌≡◌, sym, ◌∙◌}
+use mathlib.Core.Path.{sym, ◌∙◌}
 use borrow.Author.Tests.{eqb-true}
 use Rattle.verifier.proofs.QuietLaws.{none_named}
-use borrow.Author.Rules.{rules}
 use Rattle.verifier.proofs.quiet.is_silent.Goals as goal
 
 pub returns-in-Unmet : goal.returns-in-Unmet

@@ -1,7 +1,6 @@
 -- At most 16 operands, and no note.
 use mathlib.Core.Path.{refl}
 use Rattle.verifier.proofs.QuietLaws.{quiet-kept, quiet-loud}
-use borrow.Author.Rules.{rules}
 use Rattle.verifier.proofs.quiet.keeps.Goals as goal
 
 pub returns-then-d-gt-OPERANDS : goal.returns-then-d-gt-OPERANDS

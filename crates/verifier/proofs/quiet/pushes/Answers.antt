@@ -1,7 +1,6 @@
 -- At most 16 operands with the new one, and no note.
 use mathlib.Core.Path.{refl}
 use Rattle.verifier.proofs.QuietLaws.{quiet-pushed, quiet-loud}
-use borrow.Author.Rules.{rules}
 use Rattle.verifier.proofs.quiet.pushes.Goals as goal
 
 pub returns-then-d-ge-OPERANDS : goal.returns-then-d-ge-OPERANDS

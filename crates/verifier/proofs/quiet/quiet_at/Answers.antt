@@ -1,9 +1,7 @@
 -- An instruction that goes on to a point without a map, by its effect.
-use mathlib.Core.Path.{◌≡◌, refl, sym, ◌∙◌}
-use mathlib.Core.Logic.{◌≢◌}
+use mathlib.Core.Path.{◌≡◌, refl}
 use native.Mathlib.Omega.{arith}
 use lib.ListN.{length}
-use borrow.Author.Tests.{not-true, not-false}
 use Rattle.verifier.proofs.DecodingLaws.{at-within}
 use Rattle.verifier.proofs.TurnLaws.{turned-at}
 use Rattle.verifier.proofs.QuietLaws.{loud-turn, quiet-turn}

@@ -1,7 +1,6 @@
 -- Each effect by its own function.
 use mathlib.Core.Path.{refl}
 use Rattle.verifier.proofs.QuietLaws.{quiet-loud}
-use borrow.Author.Rules.{rules}
 use Rattle.verifier.proofs.quiet.quiet_of.Goals as goal
 
 pub returns-in-Rejected : goal.returns-in-Rejected

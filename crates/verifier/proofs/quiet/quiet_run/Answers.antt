@@ -1,17 +1,11 @@
 -- Each turn is one of the walk: what is left of it is always the whole.
-use mathlib.Core.Path.{◌≡◌, refl, sym, ◌∙◌}
-use mathlib.Core.Logic.{⊎_elim}
+use mathlib.Core.Path.{refl, ◌∙◌}
 use mathlib.Core.List.{[]}
-use Prim.Native.Nat.{◌<◌, ◌≤◌}
 use native.Mathlib.Omega.{arith}
-use Rattle.classfile.specs.Reading.{maps_of}
-use Rattle.verifier.specs.Types.{types_of}
-use Rattle.verifier.specs.Trace.{trace, left_from}
-use Rattle.verifier.specs.Answers.{PlaceOf}
 use Rattle.verifier.proofs.WalkLaws.{passed_to}
 use Rattle.verifier.proofs.QuietLaws.{keeps-says, pushes-says, sets-says, quiet_step}
-use borrow.Author.Rules.{rules}
 use Rattle.verifier.proofs.quiet.quiet_run.Goals as goal
+use Rattle.verifier.proofs.quiet.quiet_run.Goals.{in-Keeps, in-Pushes, in-Sets}
 
 pub loop-left-init : goal.loop-left-init
 loop-left-init c = (c.requires.1, c.requires.2, omega arith, refl)
@@ -42,13 +36,11 @@ loop-left-preserved c = (
   (passed_to _ _ _ _ (c.pass.ensures 0 [] [] 0) c.in-To.is).1,
   omega (arith, c.loop-left-test.true),
   omega (arith, c.loop-left.invariant.2),
-  ⊎_elim
-      (λ w. quiet_step _ _ _ _ _ _ _ _ _ _ _ _ _ c.loop-left.invariant.1 (passed_to _ _ _ _ (c.pass.ensures _ _ _ _) c.in-To.is).0 (keeps-says _ _ _ c.quiet_at-quiet.ensures _ _ w.1.given.1) w.3 w.4 ∙ c.loop-left.invariant.3)
-      (λ w. ⊎_elim
-      (λ v. quiet_step _ _ _ _ _ _ _ _ _ _ _ _ _ c.loop-left.invariant.1 (passed_to _ _ _ _ (c.pass.ensures _ _ _ _) c.in-To.is).0 (pushes-says _ _ _ c.quiet_at-quiet.ensures _ _ _ v.1.given.1).1 v.3 v.4 ∙ c.loop-left.invariant.3)
-      (λ v. quiet_step _ _ _ _ _ _ _ _ _ _ _ _ _ c.loop-left.invariant.1 (passed_to _ _ _ _ (c.pass.ensures _ _ _ _) c.in-To.is).0 (sets-says _ _ _ c.quiet_at-quiet.ensures _ _ _ _ v.1.given.1).1 v.3 v.4 ∙ c.loop-left.invariant.3)
-      w)
-      c.match-quiet.branch,
+  elim c.match-quiet.branch [
+    | in-Keeps w ↦ quiet_step _ _ _ _ _ _ _ _ _ _ _ _ _ c.loop-left.invariant.1 (passed_to _ _ _ _ (c.pass.ensures _ _ _ _) c.in-To.is).0 (keeps-says _ _ _ c.quiet_at-quiet.ensures _ _ w.in-Keeps.is) w.types-is w.point-is ∙ c.loop-left.invariant.3
+    | in-Pushes w ↦ quiet_step _ _ _ _ _ _ _ _ _ _ _ _ _ c.loop-left.invariant.1 (passed_to _ _ _ _ (c.pass.ensures _ _ _ _) c.in-To.is).0 (pushes-says _ _ _ c.quiet_at-quiet.ensures _ _ _ w.in-Pushes.is).1 w.types-is w.point-is ∙ c.loop-left.invariant.3
+    | in-Sets w ↦ quiet_step _ _ _ _ _ _ _ _ _ _ _ _ _ c.loop-left.invariant.1 (passed_to _ _ _ _ (c.pass.ensures _ _ _ _) c.in-To.is).0 (sets-says _ _ _ c.quiet_at-quiet.ensures _ _ _ _ w.in-Sets.is).1 w.types-is w.point-is ∙ c.loop-left.invariant.3
+  ],
 )
 
 pub returns-after-loop-left : goal.returns-after-loop-left

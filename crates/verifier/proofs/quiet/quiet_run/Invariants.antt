@@ -1,15 +1,9 @@
-use mathlib.Core.Path.{◌≡◌, refl, sym, ◌∙◌}
-use mathlib.Core.Logic.{⊎_elim}
-use mathlib.Core.List.{[]}
+use mathlib.Core.Path.{◌≡◌}
 use Prim.Native.Nat.{◌<◌, ◌≤◌}
-use native.Mathlib.Omega.{arith}
 use Rattle.classfile.specs.Reading.{maps_of}
 use Rattle.verifier.specs.Types.{types_of}
 use Rattle.verifier.specs.Trace.{trace, left_from}
 use Rattle.verifier.specs.Answers.{PlaceOf}
-use Rattle.verifier.proofs.WalkLaws.{passed_to}
-use Rattle.verifier.proofs.QuietLaws.{keeps-says, pushes-says, sets-says, quiet_step}
-use borrow.Author.Rules.{rules}
 use Rattle.verifier.proofs.quiet.quiet_run.Given as goal
 
 abbrev pub invariant-loop-left : goal.invariant-loop-left

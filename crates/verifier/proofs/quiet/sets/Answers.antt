@@ -1,7 +1,6 @@
 -- A local that is there.
 use mathlib.Core.Path.{refl}
 use Rattle.verifier.proofs.QuietLaws.{quiet-stored, quiet-loud}
-use borrow.Author.Rules.{rules}
 use Rattle.verifier.proofs.quiet.sets.Goals as goal
 
 pub returns-then-d-gt-OPERANDS : goal.returns-then-d-gt-OPERANDS

@@ -2,7 +2,6 @@
 use borrow.Author.Tests.{not-true, not-false}
 use Rattle.verifier.proofs.PostingLaws.{once-on, once-stop}
 use Rattle.verifier.proofs.TurnLaws.{flow-parts, flow-on, flow-ends}
-use borrow.Author.Rules.{rules}
 use Rattle.verifier.proofs.turns.flow.Goals as goal
 
 pub returns-then-not-met : goal.returns-then-not-met

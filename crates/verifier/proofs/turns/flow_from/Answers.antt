@@ -1,7 +1,6 @@
 -- The receiver's note, those of the values, then the flows.
 use borrow.Author.Tests.{not-true, not-false}
 use Rattle.verifier.proofs.TurnLaws.{taken-stop, change-unfit, change-fits}
-use borrow.Author.Rules.{rules}
 use Rattle.verifier.proofs.turns.flow_from.Goals as goal
 
 pub returns-then-not-change : goal.returns-then-not-change

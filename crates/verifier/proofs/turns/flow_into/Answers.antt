@@ -4,7 +4,6 @@ use borrow.Author.Tests.{not-true, not-false}
 use Rattle.verifier.specs.Answers.{next_of}
 use Rattle.verifier.proofs.PostingLaws.{once-on, once-stop}
 use Rattle.verifier.proofs.TurnLaws.{met-few, into-bare, into-mapped, taken-bound}
-use borrow.Author.Rules.{rules}
 use Rattle.verifier.proofs.turns.flow_into.Goals as goal
 
 pub returns-then-place-eq0 : goal.returns-then-place-eq0

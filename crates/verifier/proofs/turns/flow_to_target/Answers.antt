@@ -5,7 +5,6 @@ use Rattle.verifier.specs.Lookups.{target_of}
 use Rattle.verifier.specs.Trace.{target_trace, posting}
 use Rattle.verifier.proofs.PostingLaws.{posting-same}
 use Rattle.verifier.proofs.TurnLaws.{target-bare, target-mapped}
-use borrow.Author.Rules.{rules}
 use Rattle.verifier.proofs.turns.flow_to_target.Goals as goal
 
 pub returns-then-place-eq0 : goal.returns-then-place-eq0

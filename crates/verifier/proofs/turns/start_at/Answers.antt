@@ -1,10 +1,8 @@
 -- The code ends at the point, or the types are those of its map, if it has one that could be met.
 use mathlib.Core.Path.{sym, ◌∙◌}
-use borrow.Author.Tests.{not-true, not-false}
 use Rattle.verifier.specs.Answers.{next_of}
 use Rattle.verifier.proofs.FlowLaws.{fits-few}
 use Rattle.verifier.proofs.TurnLaws.{start-end, start-bare, start-unfit, start-mapped, taken-bound}
-use borrow.Author.Rules.{rules}
 use Rattle.verifier.proofs.turns.start_at.Goals as goal
 
 pub returns-then-q-n : goal.returns-then-q-n

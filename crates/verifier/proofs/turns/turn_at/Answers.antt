@@ -2,7 +2,6 @@
 use native.Mathlib.Omega.{arith}
 use Rattle.verifier.proofs.DecodingLaws.{at-within}
 use Rattle.verifier.proofs.TurnLaws.{taken-stop, taken-same, turned_none, turned-at}
-use borrow.Author.Rules.{rules}
 use Rattle.verifier.proofs.turns.turn_at.Goals as goal
 
 pub returns-in_default : goal.returns-in_default

@@ -2,7 +2,6 @@
 use mathlib.Core.Path.{ap, ◌∙◌}
 use Rattle.definition.specs.Verifier.{type_of_name}
 use Rattle.verifier.proofs.TypeLaws.{argument-there, argument-past}
-use borrow.Author.Rules.{rules}
 use Rattle.verifier.proofs.types.argument_local.Goals as goal
 
 pub returns-then-i-argument_count : goal.returns-then-i-argument_count

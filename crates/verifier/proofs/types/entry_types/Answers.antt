@@ -1,6 +1,5 @@
 -- At point 0 local 0 has the own name and the locals behind it the argument types.
 use Rattle.verifier.proofs.TypeLaws.{entry-is}
-use borrow.Author.Rules.{rules}
 use Rattle.verifier.proofs.types.entry_types.Goals as goal
 
 pub returns : goal.returns

@@ -3,7 +3,6 @@ use mathlib.Core.Path.{sym}
 use Rattle.definition.specs.Instructions.{pick}
 use Rattle.verifier.specs.Types.{local_of}
 use Rattle.verifier.proofs.TypeLaws.{known_at, known_past}
-use borrow.Author.Rules.{rules}
 use Rattle.verifier.proofs.types.local.Goals as goal
 
 pub returns-then-place-lt-LOCALS : goal.returns-then-place-lt-LOCALS

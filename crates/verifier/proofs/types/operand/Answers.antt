@@ -8,6 +8,6 @@ use Rattle.verifier.proofs.types.operand.Goals as goal
 
 pub returns-else-i-lt-OPERANDS : goal.returns-else-i-lt-OPERANDS
 returns-else-i-lt-OPERANDS c =
-    let full : length c.args.t1.operands ≡ 16 = search rules in
-    let past : length c.args.t1.operands ≤ c.args.i = omega arith in
-    sym (get_or-eq_default c.args.t1.operands 0 past)
+    let full : length c.args.types.operands ≡ 16 = search rules in
+    let past : length c.args.types.operands ≤ c.args.i = omega arith in
+    sym (get_or-eq_default c.args.types.operands 0 past)

@@ -2,7 +2,6 @@
 use mathlib.Core.Path.{sym}
 use Rattle.verifier.specs.Types.{operand_at, popped}
 use Rattle.verifier.proofs.TypeLaws.{pop-empty, pop-top}
-use borrow.Author.Rules.{rules}
 use Rattle.verifier.proofs.types.pop.Goals as goal
 
 pub returns-then-d-eq0 : goal.returns-then-d-eq0

@@ -3,7 +3,6 @@ use mathlib.Core.Path.{refl, sym, ap, ◌∙◌}
 use native.Mathlib.Omega.{arith}
 use Rattle.definition.specs.Verifier.{type_class}
 use Rattle.verifier.proofs.TypeLaws.{type-int, type-name, name-int, name-class}
-use borrow.Author.Rules.{rules}
 use Rattle.verifier.proofs.types.type_of_name.Goals as goal
 
 pub returns-then-n-eq1 : goal.returns-then-n-eq1

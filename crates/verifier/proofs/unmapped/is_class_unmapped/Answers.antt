@@ -1,11 +1,9 @@
 -- Before method j is read, one of the methods from j on is unmapped exactly if one of all is.
-use Prim.Native.Nat.{◌-◌}
-use mathlib.Core.Path.{◌≡◌, sym, ap, ◌∙◌}
-use Rattle.definition.specs.Lists.{any, rows}
+use mathlib.Core.Path.{sym, ap, ◌∙◌}
+use Rattle.definition.specs.Lists.{any}
 use Rattle.layout.specs.Places.{rows_start, any-hit, any-on, any-end}
-use Rattle.classfile.specs.Reading.{file_version, method_count, method_in, quick_methods}
+use Rattle.classfile.specs.Reading.{quick_methods}
 use Rattle.verifier.specs.Lookups.{unmapped_in}
-use borrow.Author.Rules.{rules}
 use Rattle.verifier.proofs.unmapped.is_class_unmapped.Goals as goal
 
 pub loop-j-init : goal.loop-j-init

@@ -1,10 +1,8 @@
 use Prim.Native.Nat.{◌-◌}
-use mathlib.Core.Path.{◌≡◌, sym, ap, ◌∙◌}
+use mathlib.Core.Path.{◌≡◌}
 use Rattle.definition.specs.Lists.{any, rows}
-use Rattle.layout.specs.Places.{rows_start, any-hit, any-on, any-end}
 use Rattle.classfile.specs.Reading.{file_version, method_count, method_in, quick_methods}
 use Rattle.verifier.specs.Lookups.{unmapped_in}
-use borrow.Author.Rules.{rules}
 use Rattle.verifier.proofs.unmapped.is_class_unmapped.Given as goal
 
 abbrev pub invariant-loop-j : goal.invariant-loop-j

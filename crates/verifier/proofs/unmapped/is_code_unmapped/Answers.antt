@@ -1,15 +1,9 @@
 -- What the code from point p on lacks is what all of it lacks.
-use Prim.Native.Nat.{ℕ}
-use mathlib.Core.Bool.{false}
-use mathlib.Core.Path.{◌≡◌, refl, sym, ap, ◌∙◌}
+use mathlib.Core.Path.{refl, sym, ap, ◌∙◌}
 use native.Mathlib.Omega.{arith}
-use lib.ListN.{length}
-use Rattle.definition.specs.Verifier.{unmapped_from}
-use Rattle.classfile.specs.Reading.{maps_of}
 use Rattle.verifier.specs.Decoding.{decoded_of}
 use Rattle.verifier.proofs.DecodingLaws.{decode_is, decode-at, at-within}
 use Rattle.verifier.proofs.LookupLaws.{unread, lacks, lacks-not, out-of-code}
-use borrow.Author.Rules.{rules}
 use Rattle.verifier.proofs.unmapped.is_code_unmapped.Goals as goal
 
 pub loop-left-init : goal.loop-left-init

@@ -1,14 +1,9 @@
 use Prim.Native.Nat.{ℕ}
 use mathlib.Core.Bool.{false}
-use mathlib.Core.Path.{◌≡◌, refl, sym, ap, ◌∙◌}
-use native.Mathlib.Omega.{arith}
+use mathlib.Core.Path.{◌≡◌}
 use lib.ListN.{length}
 use Rattle.definition.specs.Verifier.{unmapped_from}
 use Rattle.classfile.specs.Reading.{maps_of}
-use Rattle.verifier.specs.Decoding.{decoded_of}
-use Rattle.verifier.proofs.DecodingLaws.{decode_is, decode-at, at-within}
-use Rattle.verifier.proofs.LookupLaws.{unread, lacks, lacks-not, out-of-code}
-use borrow.Author.Rules.{rules}
 use Rattle.verifier.proofs.unmapped.is_code_unmapped.Given as goal
 
 abbrev pub invariant-loop-left : goal.invariant-loop-left

@@ -1,7 +1,6 @@
 -- Method j is there, and its code and maps are parts of the bytes.
 use Rattle.verifier.proofs.ClassLaws.{never-absent, found_at}
 use Rattle.verifier.proofs.LookupLaws.{unmapped-found}
-use borrow.Author.Rules.{rules}
 use Rattle.verifier.proofs.unmapped.is_numbered_unmapped.Goals as goal
 
 pub returns-in_default : goal.returns-in_default

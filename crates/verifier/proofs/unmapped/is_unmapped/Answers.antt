@@ -1,7 +1,6 @@
 -- Version 1 has no maps; where a later version has none, no table is made.
 use borrow.Author.Tests.{le-leb, lt-leb}
 use Rattle.verifier.proofs.LookupLaws.{indexed-nowhere}
-use borrow.Author.Rules.{rules}
 use Rattle.verifier.proofs.unmapped.is_unmapped.Goals as goal
 
 pub returns-then-version-lt-VERSION_TWO : goal.returns-then-version-lt-VERSION_TWO

@@ -1,0 +1,10 @@
+-- Each table is copied into its own.
+use Rattle.definition.specs.Tables.{tables}
+use borrow.Author.Rules.{rules}
+use Rattle.changing.proofs.copying.fill.Goals as goal
+
+pub copy32-requires-2 : goal.copy32-requires-2
+copy32-requires-2 c = c.requires.frames
+
+pub returns : goal.returns
+returns c = λ i. tables (c.copy16.ensures i) (c.copy16-2.ensures i) (c.copy8.ensures i) (c.copy16-3.ensures i) (c.copy16-4.ensures i) (c.copy16-5.ensures i) (c.copy32.ensures i) (c.copy32-2.ensures i)

@@ -1,0 +1,23 @@
+-- Before row o is looked at, those from o on still are to be; no more were freed than rows were passed.
+use mathlib.Core.Path.{◌∙◌, ◌≡◌, ap, refl, sym}
+use mathlib.Core.Logic.{⊎_elim}
+use Prim.Native.Nat.{◌-◌, ◌≤◌}
+use native.Mathlib.Omega.{arith}
+use lib.ListN.{length, get_or}
+use borrow.Author.Rules.{rules}
+use Rattle.sweeping.specs.Marking.{free_rows}
+use Rattle.sweeping.proofs.Laws.{free-start, free-turn, keep-turn, free-end}
+use Rattle.sweeping.proofs.freeing.free_unmarked.Goals as goal
+
+pub loop-o-init : goal.loop-o-init
+loop-o-init c = (omega arith, omega arith, free-start _ _ _ _ _ c.at16-rows.ensures, refl)
+
+pub loop-o-preserved : goal.loop-o-preserved
+loop-o-preserved c =
+    ⊎_elim
+    (λ w. (omega (arith, c.loop-o-test.true), omega (arith, w.7, c.loop-o.invariant.1), rw (w.6, w.7, w.3.ensures, w.2.ensures.0) (free-turn _ _ _ _ _ c.loop-o-test.true (sym c.is_dead.ensures ∙ w.0.taken)) ∙ c.loop-o.invariant.2, ap length w.6 ∙ (w.3.kept.0 ∙ c.loop-o.invariant.3)))
+    (λ w. (omega (arith, c.loop-o-test.true), omega (arith, w.2, c.loop-o.invariant.1), rw (w.1, w.2) (keep-turn _ _ _ _ _ c.loop-o-test.true (sym c.is_dead.ensures ∙ w.0.left)) ∙ c.loop-o.invariant.2, ap length w.1 ∙ c.loop-o.invariant.3))
+    c.if-is_dead.branch
+
+pub returns : goal.returns
+returns c = sym (free-end _ _ _ _ _ c.loop-o-test.false) ∙ c.loop-o.invariant.2
