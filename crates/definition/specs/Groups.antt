@@ -1,5 +1,5 @@
 -- Groups of tied requests. A group has a number, which stands beside the ties: each row has that of the group of both its ends.
-use Rattle.std.specs.Prelude.{Bool, true, false, List, [], ◌∷◌, map, ℕ, ltb}
+use Rattle.std.specs.Prelude.{true, false, List, [], ◌∷◌, map, ℕ, ltb}
 use Rattle.std.proofs.Math.Option.{Option, none, some}
 use Rattle.definition.specs.Chains.{has, reach}
 use Rattle.definition.specs.Requests.{Request, at, same_request}

@@ -1,22 +1,21 @@
 -- Groups as numbers beside the ties: cells compared and written one after the other.
 use mathlib.Core.Path.{◌≡◌, refl, sym, ap, subst, ◌∙◌}
-use mathlib.Core.Bool.{Bool, true, false, ◌&&◌, true≢false, false≢true}
-use mathlib.Core.Option.{some, some-injective}
-use mathlib.Core.List.{List, [], ◌∷◌, map}
+use mathlib.Core.Bool.{Bool, true, false, ◌&&◌}
+use mathlib.Core.Option.{some-injective}
+use mathlib.Core.List.{List, ◌∷◌, map}
 use Prim.Native.Nat.{ℕ, zero, suc, ◌+◌, ◌-◌, ◌<◌, ◌≤◌}
 use native.Mathlib.Omega.{arith}
 use lib.ListN.{length, get_or, set, get_elem?}
-use lib.Dec.{eqb, leb}
+use lib.Dec.{leb}
 use borrow.Author.Tests.{eq-eqb, ne_eqb, lt-leb, le-leb}
 use Rattle.definition.specs.Numbers.{tie_numbers_cell, groups_cell}
 use Rattle.definition.specs.Lists.{rows, all, same_list, write_rows}
 use Rattle.definition.specs.Tables.{tie_at, number_at, put_number}
-use Rattle.definition.specs.Groups.{groups_of}
 use Rattle.definition.specs.Broken.{tie_fits}
 use Rattle.laws.specs.Groups.{group-at}
 use Rattle.layout.specs.Places.{rows-length, rows-there, rows_step, rows_none, rows_start}
 use Rattle.layout.specs.NumberedRows.{numbers-before}
-use Rattle.groups.specs.Lowest.{at_most, up_to, cells_of, ties_at, RowGroups}
+use Rattle.groups.specs.Lowest.{at_most, up_to, ties_at, RowGroups}
 use Rattle.groups.specs.Laws.{there-row, groups_by}
 use Rattle.groups.specs.Numbered.{root_numbers, ties_fit, groups_fit, regrouped}
 

@@ -1,7 +1,7 @@
 -- Rows share a root exactly if a chain of ties joins them; so the roots are the groups.
 use mathlib.Core.Path.{◌≡◌, refl, sym, ap, subst, ◌∙◌}
 use mathlib.Core.List.Memᴰ
-use mathlib.Core.List.{List, [], ◌∷◌, Memᴰ}
+use mathlib.Core.List.{List, ◌∷◌, Memᴰ}
 use mathlib.Core.Option.{some}
 use mathlib.Core.Logic.{◌⊎◌, inl, inr}
 use Prim.Native.Nat.{ℕ, zero, suc, ◌+◌, ◌*◌, ◌<◌, ◌≤◌}
@@ -16,7 +16,7 @@ use Rattle.definition.specs.Tables.{tie_at}
 use Rattle.definition.specs.Groups.{groups_of}
 use Rattle.laws.specs.Chains.{chain-join}
 use Rattle.laws.specs.Groups.{one_of, two_of, Ends, GroupNumber, tied-back, end-chain, groups-are}
-use Rattle.groups.specs.Firsts.{First, NodesOf, name_in}
+use Rattle.groups.specs.Firsts.{NodesOf, name_in}
 use Rattle.groups.specs.Roots.{Root, top, SameRoot}
 use Rattle.groups.specs.Claims.{key_in, Loaders, Naming, Claim, Claimed}
 use Rattle.groups.specs.Lowest.{up_to, cells_of, ties_at, RowTied}

@@ -1,7 +1,7 @@
 -- What is tested and written is the definition's, where numbers rise, as those do that stand in turn.
-use Rattle.std.specs.Prelude.{◌≡◌, refl, Bool, true, false, ◌&&◌, ◌⊎◌, ℕ, zero, suc, ◌+◌, ◌<◌, ◌≤◌, get_or}
-use Rattle.std.proofs.Common.{sym, ap, subst, ◌∙◌, inl, inr, eq-or-lt_of_le, arith}
-use mathlib.Core.List.{List, ◌∷◌}
+use Rattle.std.specs.Prelude.{◌≡◌, true, ◌&&◌, ◌⊎◌, ℕ, zero, suc, ◌+◌, ◌<◌, ◌≤◌, get_or}
+use Rattle.std.proofs.Common.{ap, subst, inl, inr, eq-or-lt_of_le, arith}
+use mathlib.Core.List.{List}
 use Rattle.definition.specs.Numbers.{count_ties, tie_numbers_cell, groups_cell}
 use Rattle.definition.specs.Lists.{rows, same_list, write_rows}
 use Rattle.definition.specs.Tables.{Tables, number_at, put_number, put_groups, view, view_over}

@@ -1,8 +1,8 @@
 -- Groups of rows and of their numbers: where numbers rise with the rows, a group's number is that of its lowest row.
 use Rattle.std.specs.Prelude.{◌≡◌, refl, List, [], ◌∷◌, map, length}
 use Rattle.std.proofs.Common.{sym, ap, subst, ◌∙◌}
-use Rattle.std.proofs.Math.Option.{Option, none, some, some-injective, none-ne-some}
-use Prim.Native.Nat.{ℕ, zero, suc, ◌+◌, ◌<◌, ◌≤◌}
+use Rattle.std.proofs.Math.Option.{some, some-injective, none-ne-some}
+use Prim.Native.Nat.{ℕ, zero, suc, ◌<◌, ◌≤◌}
 use native.Mathlib.Omega.{arith}
 use Rattle.std.proofs.Math.ListN.{get_elem?}
 use Rattle.definition.specs.Lists.{rows}

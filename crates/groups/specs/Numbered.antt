@@ -1,5 +1,5 @@
 -- Groups beside the ties of a counts table: whether they stand there, and writing them.
-use Rattle.std.specs.Prelude.{◌≡◌, Bool, true, false, ◌&&◌, List, ℕ, get_or, leb}
+use Rattle.std.specs.Prelude.{Bool, true, false, ◌&&◌, List, ℕ, get_or, leb}
 use Rattle.definition.specs.Numbers.{tie_limit, tie_numbers_cell, groups_cell}
 use Rattle.definition.specs.Lists.{rows, all, same_list, write_rows}
 use Rattle.definition.specs.Tables.{number_at, put_number}

@@ -1,7 +1,7 @@
 -- The chain that is listed for a clash: there is one exactly if the world doesn't agree, it breaks agreement, it repeats no request, none that breaks agreement is
 -- shorter, and none as long goes before it. So it is the only one: every other that breaks agreement is longer, or as long and behind it at the earliest position
 -- where they differ. A chain of ties alone breaks agreement read from either end. Another order of rows lists a chain of the same length.
-use Rattle.std.specs.Prelude.{◌≡◌, Bool, true, false, not, ◌⊎◌, ℕ, suc, ◌+◌, ◌≤◌, ◌<◌, length, eqb, ltb}
+use Rattle.std.specs.Prelude.{◌≡◌, Bool, true, false, not, ◌⊎◌, ℕ, suc, ◌≤◌, ◌<◌, length, eqb, ltb}
 use Rattle.std.proofs.Math.Path.{refl, ap}
 use Rattle.std.proofs.Common.{sym, ◌∙◌, inl, inr, arith, eqb-true, ne_eqb}
 use Rattle.std.proofs.lemmas.Bool.{false≢true, eqb-false}

@@ -1,13 +1,13 @@
 -- File rules, by the file. A reading of a file comes to its methods one after another (`AtMethod`) and within a method to its maps (`AtMap`). Where a method's count of arguments is above 4 (version 3), a map has
 -- more than 16 operands, or an operand type is 0, the whole file doesn't read: `count-bad`, `operands-bad`, `operand-bad`.
-use Rattle.std.specs.Prelude.{◌≡◌, refl, Bool, true, false, List, [], ◌∷◌, ◌++◌, ℕ, zero, suc, ◌+◌, ◌*◌, ◌≤◌, ◌<◌, length, take, drop, eqb, leb}
-use Rattle.std.proofs.Common.{sym, ap, ◌∙◌, arith, le-leb}
+use Rattle.std.specs.Prelude.{◌≡◌, refl, true, List, ◌∷◌, ℕ, zero, suc, ◌+◌, ◌*◌, ◌<◌, drop, leb}
+use Rattle.std.proofs.Common.{sym, ap, ◌∙◌, arith}
 use Rattle.std.proofs.lemmas.Bool.{false≢true, lt-leb}
 use Rattle.std.proofs.Math.Option.{Option, none, some, some-injective}
-use Rattle.definition.specs.Numbers.{name_object, operand_limit, local_count, version_one, version_two, version_three, file_limit, argument_limit, code_limit, byte_range}
+use Rattle.definition.specs.Numbers.{name_object, operand_limit, local_count, version_two, version_three, argument_limit, byte_range}
 use Rattle.definition.specs.declared.Signature.{Signature}
-use Rattle.definition.specs.Classes.{signature, Field, Map, Method}
-use Rattle.definition.specs.File.{File, Got, byte, short, name, count, fields_in, names_in, list_in, arguments_in, signature_in, map_in, maps_from, maps_in, methods_in, read_file}
+use Rattle.definition.specs.Classes.{Field, Map, Method}
+use Rattle.definition.specs.File.{Got, byte, short, name, count, fields_in, names_in, list_in, arguments_in, signature_in, map_in, maps_from, maps_in, methods_in, read_file}
 use Rattle.definition.specs.Maybe.{◌>>=◌, need}
 use Rattle.laws.specs.Options.{bind-some, bind-at, need-true}
 use Rattle.laws.specs.Inline.{above-bad}

@@ -1,6 +1,6 @@
 -- Groups of tied requests: two requests that ties name share a number exactly if a chain of ties joins them, the number is the lowest of their group's ties,
 -- and a request that no tie names has none. So what ties join can be read from one number a row.
-use Rattle.std.specs.Prelude.{◌≡◌, Bool, ◌||◌, ◌⊎◌, ℕ, zero, suc, ◌+◌, ◌<◌, ◌≤◌, length}
+use Rattle.std.specs.Prelude.{◌≡◌, Bool, ◌||◌, ◌⊎◌, ℕ, zero, suc, ◌≤◌, length}
 use Rattle.std.proofs.Math.Path.{refl}
 use Rattle.std.proofs.Common.{sym, ap, ◌∙◌, subst, true≢false, inl, inr, arith}
 use Rattle.std.proofs.Math.Bool.{true, false}
@@ -10,7 +10,7 @@ use mathlib.Core.List.{List, [], ◌∷◌, map, Memᴰ}
 use Rattle.std.proofs.Math.ListN.{get_elem?}
 use Rattle.std.proofs.Math.Dec.{ltb}
 use borrow.Author.Tests.{ltb-true, ltb-false}
-use Rattle.definition.specs.Chains.{Chain, Edge, stay, hop, has, reach, leads}
+use Rattle.definition.specs.Chains.{Chain, Edge, stay, hop, has, leads}
 use Rattle.definition.specs.Requests.{Request, at, same_request}
 use Rattle.definition.specs.Constraints.{Tie, tie_edges}
 use Rattle.definition.specs.Instructions.{pick}

@@ -1,9 +1,8 @@
 -- An order of offered loads that is found works; none that works has fewer loads, and none of as many has lower numbers at the earliest difference; where none is found, none works.
 use Rattle.std.proofs.Math.Path.{◌≡◌, refl, ap}
-use Rattle.std.proofs.Common.{sym, ◌∙◌, inl, inr}
-use Rattle.std.specs.Prelude.{Bool, not, ◌⊎◌}
+use Rattle.std.proofs.Common.{sym, ◌∙◌}
+use Rattle.std.specs.Prelude.{Bool}
 use Rattle.std.proofs.Math.Bool.{true, false}
-use Rattle.std.proofs.lemmas.Bool.{false≢true}
 use Rattle.std.proofs.Math.Option.{Option, none, some, none-ne-some, some-injective}
 use mathlib.Core.List.Memᴰ
 use mathlib.Core.List.{List, [], ◌∷◌, Memᴰ}
@@ -18,7 +17,7 @@ use Rattle.definition.specs.Requests.{Request}
 use Rattle.definition.specs.Classes.{find}
 use Rattle.definition.specs.Tables.{Rows}
 use Rattle.definition.specs.Calls.{Load}
-use Rattle.definition.specs.Reasons.{Distinct, precedes}
+use Rattle.definition.specs.Reasons.{Distinct}
 use Rattle.definition.specs.Offers.{loaded_at, except, first_some, order_of, fewest, order, AcceptedTo, Works}
 use Rattle.laws.specs.Options.{bind-some, some-bind}
 use Rattle.laws.specs.Earlier.{NotBefore, lower-first, later-head, same_head, not_itself}

@@ -17,7 +17,7 @@ use Rattle.definition.specs.Answers.{Result, ok, refused, need, ◌>>=◌, numbe
 use Rattle.definition.specs.Requests.{at}
 use Rattle.definition.specs.Classes.{find}
 use Rattle.definition.specs.Constraints.{Tie, Subtype, World, agrees}
-use Rattle.definition.specs.Loading.{define, recorded, new_subtypes, with_entry}
+use Rattle.definition.specs.Loading.{define, recorded, with_entry}
 use Rattle.definition.specs.File.{read_file}
 use Rattle.definition.specs.Tables.{Rows, world_of}
 use Rattle.definition.specs.Calls.{Given, Load, load_define, load_record, load_rows, tried_with, try_rows, define_rows, record_rows}

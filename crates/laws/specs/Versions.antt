@@ -1,7 +1,7 @@
 -- 'Version 3 files, otherwise like version 2': every opcode byte but that of invokevirtual is read as in version 2, and so is what stands at it (`opcode-alike`, `decode-alike`); maps are (`maps-alike`); a method with
 -- one argument is, but for the count byte before its type (`one_alike`, `signature-alike`).
-use Rattle.std.specs.Prelude.{◌≡◌, refl, Bool, true, false, List, [], ◌∷◌, ◌≢◌, ℕ, suc, ◌+◌, ◌*◌, get_or, length, eqb, leb}
-use Rattle.std.proofs.Common.{ap, ◌∙◌, arith, ne_eqb}
+use Rattle.std.specs.Prelude.{◌≡◌, refl, Bool, true, false, List, [], ◌∷◌, ◌≢◌, ℕ, suc, ◌+◌, ◌*◌, get_or, length, leb}
+use Rattle.std.proofs.Common.{ap, ne_eqb}
 use Rattle.std.proofs.Math.Option.{Option, none, some}
 use Rattle.definition.specs.Numbers.{version_two, version_three, byte_range}
 use Rattle.definition.specs.declared.Arguments.{Arguments}

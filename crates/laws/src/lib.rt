@@ -1,3 +1,2 @@
 // Laws of the definitions: proofs only.
 #![tactic(auto)]
-

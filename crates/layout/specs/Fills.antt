@@ -8,7 +8,6 @@ use Prim.Native.Nat.{ℕ, zero, suc, ◌+◌, ◌<◌, ◌≤◌}
 use Rattle.std.proofs.Math.Seq.{get_or-set_other}
 use Rattle.definition.specs.Numbers.{owners_cell, tie_numbers_cell, subtype_numbers_cell, loads_cell, trace_limit}
 use Rattle.definition.specs.Lists.{rows, write_rows, stack, write_stack}
-use Rattle.definition.specs.Requests.{at}
 use Rattle.definition.specs.Classes.{Base}
 use Rattle.definition.specs.Constraints.{Tie, Subtype}
 use Rattle.definition.specs.Machine.{Value, Object, Objects, unused, made, rewritten, changed, Frame}

@@ -7,10 +7,9 @@ use Prim.Native.Nat.{ℕ, zero, suc, ◌+◌, ◌-◌, ◌/◌, ◌<◌, ◌≤�
 use native.Mathlib.Omega.{arith}
 use native.Mathlib.Numerals.{add-one}
 use lib.ListN.{length, get_or, replicate}
-use lib.Dec.{eqb, ltb}
-use borrow.Author.Tests.{eq-eqb, ltb-true, ltb-false}
+use lib.Dec.{ltb}
+use borrow.Author.Tests.{ltb-true, ltb-false}
 use Rattle.definition.specs.Lists.{is_some, rows}
-use Rattle.definition.specs.Maybe.{◌>>=◌}
 use Rattle.definition.specs.Requests.{Request}
 use Rattle.definition.specs.Classes.{find}
 use Rattle.definition.specs.Tables.{Tables, Rows, view}
@@ -18,12 +17,11 @@ use Rattle.definition.specs.Broken.{broken}
 use Rattle.definition.specs.Calls.{Load}
 use Rattle.definition.specs.Offers.{offers_in, loaded_at, except, first_some, order_of, fewest, order}
 use Rattle.laws.specs.Options.{bind-some}
-use Rattle.laws.specs.Pruned.{pruned_of, pruned-same}
+use Rattle.laws.specs.Pruned.{pruned-same}
 use Rattle.searching.specs.Offered.{offers_of, is_for_at, offers-count}
 use Rattle.searching.specs.Ordering.{digits, ordered, shortest_of, left_from, left_of, gives_at, leaves_at, pruned, Searches}
 use Rattle.searching.specs.declared.Ordered.{Ordered}
 use Rattle.searching.specs.declared.Ordered.TheVariants.{Order, NoOrder}
-use Rattle.searching.specs.declared.Fewest.{Fewest}
 use Rattle.searching.specs.declared.Fewest.TheVariants.{Loads, NoLoads}
 
 -- No offer is used

@@ -1,15 +1,15 @@
 -- The search's tests, in order, and what it answers and leaves where none fails.
-use mathlib.Core.Path.{◌≡◌, refl, sym, ap, ◌∙◌, subst}
+use mathlib.Core.Path.{◌≡◌, refl, sym, ap, ◌∙◌}
 use mathlib.Core.Bool.{Bool, true, false, not, false≢true, ◌&&◌}
 use mathlib.Core.Option.{Option, none, some}
-use mathlib.Core.List.{List, [], ◌∷◌}
+use mathlib.Core.List.{List}
 use Prim.Native.Nat.{ℕ, ◌+◌, ◌/◌, ◌<◌, ◌≤◌}
 use native.Mathlib.Omega.{arith}
 use lib.ListN.{length, get_or}
 use lib.Dec.{eqb, leb, ltb}
 use borrow.Author.Tests.{eqb-true, eqb-false, lt-ltb, le-ltb, le-leb, lt-leb}
 use Rattle.definition.specs.declared.Refusal.TheVariants.{Word}
-use Rattle.definition.specs.Numbers.{count_cache, loader_limit, name_object, offer_limit}
+use Rattle.definition.specs.Numbers.{count_cache, loader_limit, name_object}
 use Rattle.definition.specs.Lists.{rows, is_some}
 use Rattle.definition.specs.Requests.{Request, at}
 use Rattle.definition.specs.Classes.{find}
@@ -17,7 +17,7 @@ use Rattle.definition.specs.Tables.{Tables, shaped, entry_at, view_over, view}
 use Rattle.definition.specs.Broken.{broken}
 use Rattle.definition.specs.Calls.{Load, Call, perform_all}
 use Rattle.definition.specs.Offers.{offers_in, order}
-use Rattle.definition.specs.Searching.{found, not_found, denied_search, searched, calls_of, sought, search}
+use Rattle.definition.specs.Searching.{found, denied_search, searched, sought, search}
 use Rattle.laws.specs.Orders.{order-works}
 use Rattle.layout.specs.Tests.{All, all_more}
 use Rattle.layout.specs.ReadBack.{shaped-true, true-shaped}

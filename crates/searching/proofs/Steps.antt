@@ -1,7 +1,7 @@
 -- The search's parts that try no order: whether an offer is tried, the order of no loads, and the load of a row.
 use mathlib.Core.Path.{◌≡◌, refl, sym, ap, ◌∙◌}
 use mathlib.Core.Bool.{Bool, true, false, not, ◌&&◌}
-use mathlib.Core.Option.{Option, none, some}
+use mathlib.Core.Option.{Option}
 use mathlib.Core.List.{List}
 use Prim.Native.Nat.{ℕ, zero, suc}
 use native.Mathlib.Omega.{arith}
@@ -11,7 +11,7 @@ use Rattle.definition.specs.declared.Reply.{Reply}
 use Rattle.definition.specs.Instructions.{pick}
 use Rattle.definition.specs.Requests.{at}
 use Rattle.definition.specs.Tables.{Tables}
-use Rattle.definition.specs.Calls.{Done, done, load_define, load_record, call_define, call_record, call_rows, perform}
+use Rattle.definition.specs.Calls.{done, load_define, load_record, call_define, call_record, call_rows, perform}
 use Rattle.laws.specs.Refusals.{load_call}
 use Rattle.classfile.specs.Reading.{part_of}
 use Rattle.resolution.specs.declared.Found.{Found}
@@ -19,7 +19,6 @@ use Rattle.resolution.specs.declared.Found.TheVariants.{At, Absent}
 use Rattle.resolution.specs.Quick.{found, found_at, found-absent}
 use Rattle.searching.specs.Offered.{load_of, is_for_at}
 use Rattle.searching.specs.Ordering.{is_taken, taken_of, digits, ordered, cached_order, is_tried_at}
-use Rattle.searching.specs.declared.Ordered.{Ordered}
 use Rattle.searching.specs.declared.Ordered.TheVariants.{Order, NoOrder}
 
 module _ (cells files : List ℕ) (l x m n i u : ℕ) where

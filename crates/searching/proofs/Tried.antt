@@ -8,14 +8,13 @@ use native.Mathlib.Omega.{arith}
 use lib.ListN.{length, get_or, set}
 use lib.Dec.{eqb}
 use borrow.Author.Tests.{eqb-true, eq-eqb}
-use Rattle.definition.specs.declared.Reply.{Reply}
 use Rattle.definition.specs.Lists.{is_some}
 use Rattle.definition.specs.Maybe.{◌>>=◌}
 use Rattle.definition.specs.Requests.{Request}
 use Rattle.definition.specs.Classes.{Entry, find}
 use Rattle.definition.specs.Tables.{Tables, tables, Rows, cache_of, view_over, view}
 use Rattle.definition.specs.Broken.{broken}
-use Rattle.definition.specs.Calls.{Done, done, call_rows, perform}
+use Rattle.definition.specs.Calls.{done, call_rows, perform}
 use Rattle.laws.specs.Refusals.{load_call}
 use Rattle.laws.specs.Tests.{and-true}
 use Rattle.definition.specs.Offers.{offers_in, except, first_some}

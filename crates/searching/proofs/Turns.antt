@@ -1,40 +1,38 @@
 -- Trying orders: what a load of the second store leaves, that it is undone by the counts before it, and the turns of the search over the offers that are left.
 use mathlib.Core.Path.{◌≡◌, refl, sym, ap, ◌∙◌, subst}
-use mathlib.Core.Bool.{Bool, true, false, not, false≢true, ◌&&◌}
-use mathlib.Core.Option.{Option, none, some, none-ne-some, some-injective}
-use mathlib.Core.List.{List, [], ◌∷◌}
-use mathlib.Core.Logic.{◌⊎◌, inl, inr}
+use mathlib.Core.Bool.{Bool, true, false, false≢true}
+use mathlib.Core.Option.{Option, none, some, none-ne-some}
+use mathlib.Core.List.{List, ◌∷◌}
+use mathlib.Core.Logic.{inl, inr}
 use Prim.Native.Nat.{ℕ, zero, suc, ◌+◌, ◌-◌, ◌*◌, ◌/◌, ◌<◌, ◌≤◌}
 use native.Mathlib.Omega.{arith}
 use native.Mathlib.Numerals.{add-one}
-use lib.ListN.{length, get_or, set, get_elem?}
+use lib.ListN.{length, get_or, set}
 use lib.Seq.{get_or-set_same, get_or-set_other}
 use lib.Dec.{eqb}
-use borrow.Author.Tests.{eq-eqb, ne_eqb, eqb-true, eqb-false}
-use Rattle.definition.specs.declared.Refusal.{Refusal}
+use borrow.Author.Tests.{eq-eqb, eqb-true, eqb-false}
 use Rattle.definition.specs.declared.Reply.{Reply}
 use Rattle.definition.specs.declared.Reply.TheVariants.{Accepted, Defined, Stepped, RanFor, Swept, Denied}
 use Rattle.definition.specs.Lists.{is_some}
 use Rattle.definition.specs.Maybe.{◌>>=◌}
 use Rattle.definition.specs.Answers.{Result, refused, ok}
 use Rattle.definition.specs.Requests.{Request}
-use Rattle.definition.specs.Tables.{Tables, tables, Rows, view, put}
+use Rattle.definition.specs.Tables.{Tables, Rows, view}
 use Rattle.definition.specs.Broken.{broken}
-use Rattle.definition.specs.Calls.{Given, Done, done, carried, Load, load_define, load_record, load_rows, RowCall, on_row_call, call_rows, perform}
+use Rattle.definition.specs.Calls.{Given, Done, done, carried, Load, load_define, load_record, load_rows, on_row_call, call_rows, perform}
 use Rattle.definition.specs.Computing.OnRows.{settle, on_rows, perform_rows}
 use Rattle.laws.specs.Refusals.{load_call, load-rows}
 use Rattle.laws.specs.Refused.{refusal, Taken, rows_taken}
 use Rattle.laws.specs.Wrapped.{wrap-carried, ok_at}
 use Rattle.layout.specs.Unbroken.{unbroken, broken-false}
-use Rattle.unbroken.specs.Traces.{Remembers, TraceBy, rows-trace}
-use Rattle.unbroken.specs.OnRows.{Shows, same-perform}
+use Rattle.unbroken.specs.Traces.{TraceBy, rows-trace}
+use Rattle.unbroken.specs.OnRows.{same-perform}
 use Rattle.unbroken.specs.Unbroken.{kept-unbroken}
 use Rattle.definition.specs.Offers.{offers_in, loaded, loaded_at, except, first_some}
 use Rattle.laws.specs.Pruned.{is_tried, pruned_of}
 use Rattle.layout.specs.SetBack.{Continues, continues-self, loads-continue, set_back, set-back, set-back-unbroken}
-use Rattle.searching.specs.Offered.{load_at, is_for_at, offers_of, offered}
-use Rattle.searching.specs.Ordering.{is_taken, taken_of, digits, ordered, gives_at, leaves_at, is_tried_at, pruned, through, left_from}
-use Rattle.searching.specs.declared.Ordered.{Ordered}
+use Rattle.searching.specs.Offered.{load_at, offers_of, offered}
+use Rattle.searching.specs.Ordering.{is_taken, taken_of, digits, ordered, is_tried_at, pruned, through, left_from}
 use Rattle.searching.specs.declared.Ordered.TheVariants.{Order, NoOrder}
 
 -- A load

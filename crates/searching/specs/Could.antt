@@ -1,6 +1,6 @@
 -- What a load can be refused for without a look at its code: there is no room for its file's bytes, its own request is cached already, or its superclass isn't under
 -- its loader; or the class that it records has another name. Where that is so, it isn't accepted.
-use Rattle.std.specs.Prelude.{◌≡◌, Bool, not, ◌&&◌, List, [], ℕ, ◌+◌, ◌*◌, ◌<◌, ◌≤◌, length, eqb, leb, ltb}
+use Rattle.std.specs.Prelude.{◌≡◌, Bool, not, ◌&&◌, List, ℕ, ◌+◌, ◌*◌, length, eqb, leb, ltb}
 use Rattle.std.proofs.Math.Path.{refl, sym}
 use Rattle.std.proofs.Common.{ap, ◌∙◌}
 use Rattle.std.proofs.Math.Bool.{true, false}
@@ -12,13 +12,12 @@ use Rattle.definition.specs.declared.Reply.{Reply}
 use Rattle.definition.specs.Numbers.{count_kept, count_cache, loader_limit, kept_limit, file_limit, offer_cells}
 use Rattle.definition.specs.Lists.{is_some, rows}
 use Rattle.definition.specs.Instructions.{pick}
-use Rattle.definition.specs.Answers.{Result, refused, ok, ◌>>=◌}
-use Rattle.definition.specs.Requests.{Request, at}
+use Rattle.definition.specs.Answers.{Result, refused, ok}
+use Rattle.definition.specs.Requests.{at}
 use Rattle.definition.specs.Classes.{Base, Class, Entry, find}
-use Rattle.definition.specs.Constraints.{World}
-use Rattle.definition.specs.File.{read_file, class_of}
+use Rattle.definition.specs.File.{read_file}
 use Rattle.definition.specs.Loading.{recorded}
-use Rattle.definition.specs.Tables.{Tables, Rows, entry_at, class_row_at, view_base, view_over, view, world_of}
+use Rattle.definition.specs.Tables.{Tables, Rows, entry_at, view_over, view, world_of}
 use Rattle.definition.specs.Broken.{broken}
 use Rattle.definition.specs.Calls.{Given, Load, load_define, load_record, load_rows, define_rows, record_rows}
 use Rattle.definition.specs.Offers.{loaded}
@@ -27,7 +26,7 @@ use Rattle.layout.specs.Places.{rows-length}
 use Rattle.unbroken.specs.Accepted.{defined-is}
 use Rattle.classfile.specs.Reading.{class_name, super_name, part_of}
 use Rattle.classfile.specs.Laws.{file-readable, name_of, super-of}
-use Rattle.resolution.specs.Quick.{quick_class, quick_of, either, class-there, class-past}
+use Rattle.resolution.specs.Quick.{quick_of, either, class-there, class-past}
 use Rattle.resolution.specs.Lookups.{name_in, class-name}
 use Rattle.resolution.specs.Unbroken.{quick-base}
 use Rattle.searching.specs.Offered.{cell_of, load_of, load_at}

@@ -1,8 +1,5 @@
 -- What the search answers, read as the definition's answer, and what its tests say before anything is written.
-use Rattle.std.specs.Prelude.{◌≡◌, refl, Bool, true, false, not, ◌&&◌, List, [], ℕ, ◌/◌, ◌<◌, length}
-use Rattle.std.proofs.Common.{sym, ap, ◌∙◌}
-use Rattle.std.proofs.Math.Option.{Option, none, some}
-use Rattle.definition.specs.declared.Refusal.{Refusal}
+use Rattle.std.specs.Prelude.{◌≡◌, true, false, List, ℕ, ◌<◌}
 use Rattle.definition.specs.declared.Refusal.TheVariants.{Word}
 use Rattle.definition.specs.Numbers.{loader_limit}
 use Rattle.definition.specs.Lists.{is_some}

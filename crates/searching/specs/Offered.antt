@@ -8,22 +8,17 @@ use Rattle.std.proofs.Math.Option.{Option, none, some, none-ne-some, some-inject
 use mathlib.Core.List.{List, [], ◌∷◌}
 use Rattle.std.proofs.Math.ListN.{get_elem?}
 use Rattle.std.proofs.Math.Dec.{eqb}
-use borrow.Author.Tests.{leb-true, leb-false, le-leb, lt-leb, lt-ltb, le-ltb}
+use borrow.Author.Tests.{leb-true}
 use Rattle.definition.specs.Numbers.{short_range, offer_limit, offer_cells}
 use Rattle.definition.specs.Lists.{is_some}
 use Rattle.definition.specs.Maybe.{◌>>=◌, need}
 use Rattle.definition.specs.Instructions.{pick}
 use Rattle.definition.specs.Requests.{Request, at, same_request}
-use Rattle.definition.specs.File.{read_file}
-use Rattle.definition.specs.Classes.{find}
-use Rattle.definition.specs.Tables.{Rows}
 use Rattle.definition.specs.Calls.{Load, load_define, load_record}
-use Rattle.definition.specs.Offers.{offer_of, offer_at, offers_from, offers_in, loaded, loaded_at}
-use Rattle.unbroken.specs.Offered.{request_of, Caches, load-caches, is_for, gives, leaves}
-use Rattle.laws.specs.Options.{bind-some, some-bind}
+use Rattle.definition.specs.Offers.{offer_of, offer_at, offers_from, offers_in}
+use Rattle.laws.specs.Options.{bind-some}
 use Rattle.laws.specs.Tests.{and-true}
 use Rattle.classfile.specs.Reading.{class_name, part_of}
-use Rattle.classfile.specs.Laws.{name_of}
 
 abbrev pub cell_of : List ℕ → ℕ → ℕ → ℕ
 cell_of cells i k = get_or cells (i * offer_cells + k) 0

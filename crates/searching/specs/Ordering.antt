@@ -1,10 +1,9 @@
 -- Orders as numbers, the offers that are left, and what a search of orders of n loads answers and leaves.
-use Rattle.std.specs.Prelude.{◌≡◌, refl, Bool, true, not, ◌&&◌, List, [], ◌∷◌, ℕ, zero, suc, ◌+◌, ◌*◌, ◌/◌, ◌<◌, ◌≤◌, length, get_or, eqb}
-use Rattle.std.proofs.Common.{sym, ◌∙◌, subst, arith}
+use Rattle.std.specs.Prelude.{◌≡◌, Bool, true, not, ◌&&◌, List, [], ◌∷◌, ℕ, zero, suc, ◌+◌, ◌*◌, ◌/◌, ◌<◌, length, get_or, eqb}
+use Rattle.std.proofs.Common.{sym, ◌∙◌}
 use Rattle.std.proofs.Math.Path.{ap}
 use Rattle.std.proofs.Math.Bool.{false}
-use Rattle.std.proofs.lemmas.Bool.{false≢true}
-use Rattle.std.proofs.Math.Option.{Option, none, some, none-ne-some, some-injective}
+use Rattle.std.proofs.Math.Option.{Option, none, some, some-injective}
 use Rattle.std.proofs.Math.ListN.{get_elem?}
 use Rattle.definition.specs.declared.Reply.{Reply}
 use Rattle.definition.specs.declared.Reply.TheVariants.{Accepted, Defined, Stepped, RanFor, Swept, Denied}
@@ -16,12 +15,11 @@ use Rattle.definition.specs.Tables.{Tables, Rows, view}
 use Rattle.definition.specs.Broken.{broken}
 use Rattle.definition.specs.Calls.{Done, done, Load, load_define, load_record}
 use Rattle.laws.specs.Options.{bind-some, some-bind}
-use Rattle.definition.specs.Offers.{offers_in, loaded, loaded_at, except}
+use Rattle.definition.specs.Offers.{loaded_at, except}
 use Rattle.laws.specs.Pruned.{pruned_of}
 use Rattle.unbroken.specs.Offered.{request_of, Caches, load-caches, is_for, gives, leaves}
-use Rattle.classfile.specs.Reading.{class_name}
 use Rattle.classfile.specs.Laws.{name_of}
-use Rattle.searching.specs.Offered.{load_at, is_for_load, is_for_at, offers_of, loads-at}
+use Rattle.searching.specs.Offered.{is_for_load, is_for_at, offers_of, loads-at}
 use Rattle.searching.specs.declared.Ordered.{Ordered}
 use Rattle.searching.specs.declared.Ordered.TheVariants.{Order, NoOrder}
 use Rattle.searching.specs.declared.Fewest.{Fewest}

@@ -1,11 +1,8 @@
 -- The offers of an order by its number's digits, and the calls of their loads.
-use Rattle.std.specs.Prelude.{◌≡◌, refl, Bool, true, List, [], ◌∷◌, ℕ, zero, suc, ◌+◌, ◌-◌, ◌*◌, ◌/◌, ◌%◌, ◌<◌, ◌≤◌, length}
-use Rattle.std.proofs.Common.{sym, ap, ◌∙◌, arith, add-one}
-use Rattle.std.proofs.Math.Option.{Option, none, some}
-use Rattle.std.proofs.Math.ListN.{get_elem?}
+use Rattle.std.specs.Prelude.{◌≡◌, refl, true, List, [], ◌∷◌, ℕ, zero, suc, ◌+◌, ◌*◌, ◌/◌, ◌%◌, ◌<◌, length}
+use Rattle.std.proofs.Common.{ap, ◌∙◌, arith}
 use Rattle.definition.specs.Lists.{is_some}
-use Rattle.definition.specs.Tables.{Tables}
-use Rattle.definition.specs.Calls.{Done, Load, load_call, Call, call_rows, perform, perform_all}
+use Rattle.definition.specs.Calls.{load_call, Call, call_rows}
 use Rattle.definition.specs.Offers.{offers_in}
 use Rattle.definition.specs.Searching.{calls_of}
 use Rattle.layout.specs.Tests.{All}

@@ -1,7 +1,6 @@
 -- A cell of 16 bits is written at its place, and no other changes; past the end nothing is written.
 use mathlib.Core.Path.{sym}
 use lib.Seq.{set_out}
-use borrow.Author.Rules.{rules}
 use Rattle.cells.proofs.put16.Goals as goal
 
 pub returns-else-i-t : goal.returns-else-i-t

@@ -1,5 +1,4 @@
 -- Three cells are written at the row's places.
-use borrow.Author.Rules.{rules}
 use Rattle.cells.proofs.put_three.Goals as goal
 
 pub returns : goal.returns

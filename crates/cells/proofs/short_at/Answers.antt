@@ -1,6 +1,5 @@
 -- 16 bits are the byte at a place and the byte after it, the higher first; a byte past the end is 0.
 use Rattle.definition.specs.Instructions.{short_at}
-use borrow.Author.Rules.{rules}
 use Rattle.cells.proofs.short_at.Goals as goal
 
 pub returns : goal.returns

@@ -1,10 +1,6 @@
 use Prim.Native.Nat.{◌-◌, ◌≤◌}
-use mathlib.Core.Path.{sym, ◌∙◌}
-use native.Mathlib.Omega.{arith}
 use lib.ListN.{length}
-use borrow.Author.Rules.{rules}
-use Rattle.copying.specs.Copied.{copied-whole, copied_none}
-use Rattle.copying.proofs.Copies.{Copying, copying-start, copying-more, copying-end}
+use Rattle.copying.proofs.Copies.{Copying}
 use Rattle.copying.proofs.copy32.Given as goal
 
 abbrev pub invariant-loop-i : goal.invariant-loop-i

@@ -1,11 +1,8 @@
 -- Before cell i is written, the first i cells stand in the target.
-use Prim.Native.Nat.{◌-◌, ◌≤◌}
 use mathlib.Core.Path.{sym, ◌∙◌}
 use native.Mathlib.Omega.{arith}
-use lib.ListN.{length}
-use borrow.Author.Rules.{rules}
 use Rattle.copying.specs.Copied.{copied-whole, copied_none}
-use Rattle.copying.proofs.Copies.{Copying, copying-start, copying-more, copying-end}
+use Rattle.copying.proofs.Copies.{copying-start, copying-more, copying-end}
 use Rattle.copying.proofs.copy8.Goals as goal
 
 pub returns-then-source-target : goal.returns-then-source-target

@@ -1,6 +1,5 @@
 -- Each table is copied into its own.
 use Rattle.definition.specs.Tables.{tables}
-use borrow.Author.Rules.{rules}
 use Rattle.copying.proofs.fill.Goals as goal
 
 pub returns : goal.returns

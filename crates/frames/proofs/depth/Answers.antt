@@ -1,5 +1,4 @@
 -- A frame's operand count is the fourth cell of its row.
-use borrow.Author.Rules.{rules}
 use Rattle.frames.proofs.depth.Goals as goal
 
 pub returns : goal.returns

@@ -1,5 +1,4 @@
 -- A field is read from its two cells in the object's row.
-use borrow.Author.Rules.{rules}
 use Rattle.definition.specs.Tables.{field_at}
 use Rattle.frames.proofs.field.Goals as goal
 

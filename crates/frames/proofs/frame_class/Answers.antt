@@ -1,5 +1,4 @@
 -- A frame's class is the first cell of its row.
-use borrow.Author.Rules.{rules}
 use Rattle.frames.proofs.frame_class.Goals as goal
 
 pub returns : goal.returns

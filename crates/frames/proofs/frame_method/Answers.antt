@@ -1,5 +1,4 @@
 -- The place of a frame's method in its class is the second cell of its row.
-use borrow.Author.Rules.{rules}
 use Rattle.frames.proofs.frame_method.Goals as goal
 
 pub returns : goal.returns

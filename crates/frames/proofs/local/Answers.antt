@@ -1,5 +1,4 @@
 -- A local is read from its two cells in the frame's row.
-use borrow.Author.Rules.{rules}
 use Rattle.definition.specs.Tables.{local_at}
 use Rattle.frames.proofs.local.Goals as goal
 

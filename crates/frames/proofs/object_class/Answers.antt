@@ -1,5 +1,4 @@
 -- An object's class is the first cell of its row.
-use borrow.Author.Rules.{rules}
 use Rattle.frames.proofs.object_class.Goals as goal
 
 pub returns : goal.returns

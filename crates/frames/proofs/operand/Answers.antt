@@ -1,5 +1,4 @@
 -- An operand, counted from the lowest, is read from its two cells in the frame's row.
-use borrow.Author.Rules.{rules}
 use Rattle.definition.specs.Tables.{operand_at}
 use Rattle.frames.proofs.operand.Goals as goal
 

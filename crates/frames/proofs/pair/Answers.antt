@@ -1,5 +1,4 @@
 -- A value is read from two cells, its kind and then its bits; a cell past the end reads 0.
-use borrow.Author.Rules.{rules}
 use Rattle.definition.specs.Tables.{value_at}
 use Rattle.frames.proofs.pair.Goals as goal
 

@@ -1,5 +1,4 @@
 -- A frame's point is the third cell of its row.
-use borrow.Author.Rules.{rules}
 use Rattle.frames.proofs.point.Goals as goal
 
 pub returns : goal.returns

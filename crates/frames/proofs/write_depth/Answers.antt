@@ -1,5 +1,4 @@
 -- A frame's operand count is written, and no other cell.
-use borrow.Author.Rules.{rules}
 use Rattle.frames.proofs.write_depth.Goals as goal
 
 pub returns : goal.returns

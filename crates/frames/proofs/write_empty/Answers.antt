@@ -1,6 +1,5 @@
 -- Locals 5 to 7 of a frame are written as not set.
 use Rattle.frames.specs.Initial.{put_empty}
-use borrow.Author.Rules.{rules}
 use Rattle.frames.proofs.write_empty.Goals as goal
 
 pub returns : goal.returns

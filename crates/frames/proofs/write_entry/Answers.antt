@@ -1,5 +1,4 @@
 -- A frame's row is written as one that is just entered: its class and method, this and the arguments as its locals, point 0 and no operands.
-use borrow.Author.Rules.{rules}
 use Rattle.frames.specs.Initial.{put_empty}
 use Rattle.definition.specs.Instructions.{pick}
 use Rattle.definition.specs.Lists.{filled, write_rows, write_stack}

@@ -1,6 +1,5 @@
 -- A field is written into its two cells in the object's row.
 use mathlib.Core.Path.{sym}
-use borrow.Author.Rules.{rules}
 use Rattle.definition.specs.Tables.{put_field}
 use Rattle.layout.specs.Cells.{put_value-cells}
 use Rattle.frames.proofs.write_field.Goals as goal

@@ -1,5 +1,4 @@
 -- A frame's class and method are written, with point 0 and no operands.
-use borrow.Author.Rules.{rules}
 use Rattle.frames.proofs.write_head.Goals as goal
 
 pub returns : goal.returns

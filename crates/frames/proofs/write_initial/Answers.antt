@@ -1,5 +1,4 @@
 -- A field begins as 0 if its type is int, and as null if its type is a class name.
-use borrow.Author.Rules.{rules}
 use borrow.Author.Tests.{eq-eqb, ne_eqb}
 use Rattle.frames.specs.Initial.{initial_of}
 use Rattle.definition.specs.Instructions.{pick}

@@ -1,5 +1,4 @@
 -- A frame's point and operand count are written, and no other cell.
-use borrow.Author.Rules.{rules}
 use Rattle.frames.proofs.write_moved.Goals as goal
 
 pub returns : goal.returns

@@ -1,12 +1,10 @@
 -- A new object's row is written: its class, and what each of its fields begins as.
-use Prim.Native.Nat.{◌-◌, ◌≤◌}
+use Prim.Native.Nat.{◌-◌}
 use mathlib.Core.Path.{◌≡◌, refl, sym, ◌∙◌}
 use native.Mathlib.Omega.{arith}
-use borrow.Author.Rules.{rules}
-use lib.ListN.{length, get_or}
+use lib.ListN.{get_or}
 use Rattle.frames.proofs.Laws.{write_rows-none, write_rows-down}
 use Rattle.frames.specs.Initial.{initial_of}
-use Rattle.definition.specs.Lists.{rows, write_rows}
 use Rattle.definition.specs.Tables.{put_field, put_object}
 use Rattle.frames.proofs.write_object.Goals as goal
 

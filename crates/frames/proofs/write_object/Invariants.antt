@@ -1,12 +1,9 @@
 use Prim.Native.Nat.{◌-◌, ◌≤◌}
-use mathlib.Core.Path.{◌≡◌, refl, sym, ◌∙◌}
-use native.Mathlib.Omega.{arith}
-use borrow.Author.Rules.{rules}
+use mathlib.Core.Path.{◌≡◌}
 use lib.ListN.{length, get_or}
-use Rattle.frames.proofs.Laws.{write_rows-none, write_rows-down}
 use Rattle.frames.specs.Initial.{initial_of}
 use Rattle.definition.specs.Lists.{rows, write_rows}
-use Rattle.definition.specs.Tables.{put_field, put_object}
+use Rattle.definition.specs.Tables.{put_field}
 use Rattle.frames.proofs.write_object.Given as goal
 
 abbrev pub invariant-loop-i : goal.invariant-loop-i

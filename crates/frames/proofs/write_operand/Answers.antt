@@ -1,6 +1,5 @@
 -- An operand, counted from the lowest, is written into its two cells in the frame's row.
 use mathlib.Core.Path.{sym}
-use borrow.Author.Rules.{rules}
 use Rattle.definition.specs.Tables.{put_operand}
 use Rattle.layout.specs.Cells.{put_value-cells}
 use Rattle.frames.proofs.write_operand.Goals as goal

@@ -1,5 +1,4 @@
 -- A value is written into two cells, its kind and then its bits; past the end nothing is written.
-use borrow.Author.Rules.{rules}
 use Rattle.frames.proofs.write_pair.Goals as goal
 
 pub returns : goal.returns

@@ -1,5 +1,5 @@
 -- aconst_null puts null above the operands, and is refused if there is no room.
-use Rattle.std.proofs.Common.{arith, rules}
+use Rattle.std.proofs.Common.{arith}
 use Rattle.instructions.specs.Operands.{room-full, room-free}
 use Rattle.instructions.specs.Plans.{meaning}
 use Rattle.definition.specs.Answers.{◌>>=◌}

@@ -1,5 +1,5 @@
 -- An operator puts what it makes of the two top operands in their place; it is refused if they are not two ints.
-use Rattle.std.proofs.Common.{arith, rules}
+use Rattle.std.proofs.Common.{arith}
 use Rattle.instructions.specs.Operands.{pop-none, pop-some, int_is, int-not}
 use Rattle.instructions.specs.Plans.{meaning, computed-means, computed_fits}
 use Rattle.definition.specs.Answers.{◌>>=◌}

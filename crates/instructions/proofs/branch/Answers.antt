@@ -1,5 +1,5 @@
 -- A branch is decided by its condition; goto takes no operand away and always jumps.
-use Rattle.std.proofs.Common.{refl, rules}
+use Rattle.std.proofs.Common.{refl}
 use Rattle.instructions.specs.Plans.{meaning}
 use Rattle.definition.specs.Answers.{◌>>=◌}
 use Rattle.definition.specs.Instructions.{pick}

@@ -1,5 +1,5 @@
 -- A sum, a difference, a product and a quotient, by their bits; a divisor 0 is refused.
-use Rattle.std.proofs.Common.{arith, rules, ne_eqb}
+use Rattle.std.proofs.Common.{arith, ne_eqb}
 use Rattle.instructions.specs.Operands.{subtracted}
 use Rattle.instructions.specs.Plans.{computed}
 use Rattle.definition.specs.Answers.{need, ◌>>=◌}

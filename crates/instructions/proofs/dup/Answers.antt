@@ -1,5 +1,5 @@
 -- dup puts the top operand above itself, and is refused if there is no room or no operand.
-use Rattle.std.proofs.Common.{arith, rules}
+use Rattle.std.proofs.Common.{arith}
 use Rattle.instructions.specs.Operands.{room-full, room-free, pop-none, pop-some}
 use Rattle.instructions.specs.Plans.{meaning}
 use Rattle.definition.specs.Answers.{◌>>=◌}

@@ -1,7 +1,6 @@
 -- A return gives a value of its kind to the frame below, or finishes the task with an int; it is refused if that frame has no room, or if the top operand is not of
 -- its kind, or no int in a first frame.
-use Rattle.std.proofs.Common.{sym, ◌∙◌, arith, rules}
-use borrow.Author.Tests.{not-true, not-false}
+use Rattle.std.proofs.Common.{sym, ◌∙◌, arith}
 use Rattle.instructions.specs.Operands.{pop-none, pop-some, int_is, int-not, of_is, of-not, under-room, room-below}
 use Rattle.instructions.specs.Plans.{meaning}
 use Rattle.definition.specs.Answers.{◌>>=◌, need}

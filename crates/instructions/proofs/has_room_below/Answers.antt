@@ -1,5 +1,5 @@
 -- The frame below has room for a result if it has fewer than 16 operands; a first frame needs none.
-use Rattle.std.proofs.Common.{rules, eq-eqb, ne_eqb}
+use Rattle.std.proofs.Common.{eq-eqb, ne_eqb}
 use Rattle.instructions.specs.Operands.{room_below}
 use Rattle.definition.specs.Instructions.{pick}
 use Rattle.instructions.proofs.has_room_below.Goals as goal

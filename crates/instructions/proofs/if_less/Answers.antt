@@ -1,5 +1,4 @@
 -- if_icmplt jumps if the lower of the two top operands, which it takes away, is less than the upper; it is refused if they are not two ints.
-use Rattle.std.proofs.Common.{rules}
 use Rattle.instructions.specs.Operands.{pop-none, pop-some, int_is, int-not}
 use Rattle.instructions.specs.Plans.{meaning, jumped-means, jumped-fits}
 use Rattle.definition.specs.Answers.{◌>>=◌}

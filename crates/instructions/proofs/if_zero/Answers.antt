@@ -1,5 +1,4 @@
 -- ifeq jumps if the top operand, which it takes away, is 0; it is refused if that is no int.
-use Rattle.std.proofs.Common.{rules}
 use Rattle.instructions.specs.Operands.{pop-none, pop-some, int_is, int-not}
 use Rattle.instructions.specs.Plans.{meaning, jumped-means, jumped-fits}
 use Rattle.definition.specs.Answers.{◌>>=◌}

@@ -1,5 +1,5 @@
 -- For int, cells must hold an int; for a class name, a reference.
-use Rattle.std.proofs.Common.{rules, eq-eqb, ne_eqb}
+use Rattle.std.proofs.Common.{eq-eqb, ne_eqb}
 use Rattle.instructions.specs.Operands.{is_kind}
 use Rattle.definition.specs.Instructions.{pick}
 use Rattle.instructions.proofs.is_kind.Goals as goal

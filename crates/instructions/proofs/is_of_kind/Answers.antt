@@ -1,5 +1,4 @@
 -- Cells hold a value of the kind: an int, or a reference.
-use Rattle.std.proofs.Common.{rules}
 use Rattle.instructions.specs.Operands.{is_of_kind}
 use Rattle.instructions.proofs.is_of_kind.Goals as goal
 

@@ -1,6 +1,5 @@
 -- A load puts a local above the operands; it is refused if there is no room, no such local, or no value of its kind in it.
-use Rattle.std.proofs.Common.{sym, ◌∙◌, arith, rules}
-use borrow.Author.Tests.{not-true, not-false}
+use Rattle.std.proofs.Common.{sym, ◌∙◌, arith}
 use Rattle.instructions.specs.Operands.{room-full, room-free, take_past, take_at, of_is, of-not}
 use Rattle.instructions.specs.Plans.{meaning}
 use Rattle.definition.specs.Answers.{◌>>=◌}

@@ -1,5 +1,4 @@
 -- pop takes the top operand away, and is refused if there is none.
-use Rattle.std.proofs.Common.{rules}
 use Rattle.instructions.specs.Operands.{pop-none, pop-some}
 use Rattle.instructions.specs.Plans.{meaning}
 use Rattle.definition.specs.Answers.{◌>>=◌}

@@ -1,6 +1,5 @@
 -- A store takes the top operand into a local; it is refused if there is no operand, if it is not of its kind, or if there is no such local.
-use Rattle.std.proofs.Common.{sym, ◌∙◌, rules}
-use borrow.Author.Tests.{not-true, not-false}
+use Rattle.std.proofs.Common.{sym, ◌∙◌}
 use Rattle.instructions.specs.Operands.{pop-none, pop-some, take_past, take_at, of_is, of-not}
 use Rattle.instructions.specs.Plans.{meaning}
 use Rattle.definition.specs.Answers.{◌>>=◌}

@@ -1,5 +1,4 @@
 -- The count of a task's frames stands in cell 6 + task.
-use borrow.Author.Rules.{rules}
 use Rattle.tasks.proofs.frame_count.Goals as goal
 
 pub returns : goal.returns

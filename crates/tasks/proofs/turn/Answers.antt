@@ -1,6 +1,5 @@
 -- The quote's turn unless it has no frame.
 use mathlib.Core.Path.{sym, ◌∙◌}
-use borrow.Author.Rules.{rules}
 use borrow.Author.Tests.{eq-eqb, ne_eqb}
 use Rattle.tasks.specs.Turns.{turn_of}
 use Rattle.definition.specs.Instructions.{pick}

@@ -1,5 +1,4 @@
 -- Each variant is a list as long.
-use borrow.Author.Rules.{rules}
 use Rattle.cells.proofs.arguments.argument_at.Goals as goal
 
 pub returns-in-OneArgument : goal.returns-in-OneArgument

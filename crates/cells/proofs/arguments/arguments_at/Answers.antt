@@ -12,7 +12,6 @@ use Rattle.definition.specs.Classes.{arguments_of}
 use Rattle.definition.specs.Instructions.{shorts_at}
 use Rattle.definition.specs.Maybe.{◌>>=◌, need}
 use Rattle.cells.specs.Listed.{or_no_arguments, list_at, list_read, shorts-past}
-use borrow.Author.Rules.{rules}
 use Rattle.cells.proofs.arguments.arguments_at.Goals as goal
 
 module _ (bs : List ℕ) (p n : ℕ) (a : Arguments) (few : n ≤ argument_limit) where

@@ -7,7 +7,6 @@ use native.Mathlib.Omega.{arith}
 use Rattle.definition.specs.declared.Arguments.TheVariants.{NoArguments, OneArgument, TwoArguments, ThreeArguments, FourArguments}
 use Rattle.definition.specs.Classes.{arguments_of}
 use Rattle.definition.specs.Instructions.{short_at, shorts_at}
-use borrow.Author.Rules.{rules}
 use Rattle.cells.proofs.arguments.few_at.Goals as goal
 
 module _ (bs : List ℕ) (p n a b c d : ℕ) (x : a ≡ short_at bs p) (y : b ≡ short_at bs (p + 2)) (z : c ≡ short_at bs (p + 4)) (t : d ≡ short_at bs (p + 6)) where

@@ -3,7 +3,6 @@ use mathlib.Core.Path.{◌≡◌, refl}
 use mathlib.Core.List.{[], ◌∷◌}
 use Prim.Native.Nat.{ℕ, zero, suc}
 use lib.ListN.{get_or}
-use borrow.Author.Rules.{rules}
 use Rattle.cells.proofs.arguments.three_at.Goals as goal
 
 none-past : (x y z i : ℕ) → (i ≡ 0 → ⊥) → (i ≡ 1 → ⊥) → (i ≡ 2 → ⊥) → 0 ≡ get_or (x ∷ y ∷ z ∷ []) i 0

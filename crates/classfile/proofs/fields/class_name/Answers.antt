@@ -1,6 +1,5 @@
 -- The class name stands at place 3.
 use Rattle.classfile.specs.Reading.{class_name}
-use borrow.Author.Rules.{rules}
 use Rattle.classfile.proofs.fields.class_name.Goals as goal
 
 pub returns : goal.returns

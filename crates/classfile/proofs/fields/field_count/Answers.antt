@@ -1,6 +1,5 @@
 -- The byte with the field count stands at place 7.
 use Rattle.classfile.specs.Reading.{field_count}
-use borrow.Author.Rules.{rules}
 use Rattle.classfile.proofs.fields.field_count.Goals as goal
 
 pub returns : goal.returns

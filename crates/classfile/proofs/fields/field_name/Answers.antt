@@ -1,6 +1,5 @@
 -- The name begins at the field's place.
 use Rattle.classfile.specs.Reading.{field_in}
-use borrow.Author.Rules.{rules}
 use Rattle.classfile.proofs.fields.field_name.Goals as goal
 
 pub returns : goal.returns

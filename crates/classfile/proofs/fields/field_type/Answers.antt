@@ -1,6 +1,5 @@
 -- The type begins two bytes after the field's place.
 use Rattle.classfile.specs.Reading.{field_in}
-use borrow.Author.Rules.{rules}
 use Rattle.classfile.proofs.fields.field_type.Goals as goal
 
 pub returns : goal.returns

@@ -1,11 +1,8 @@
 -- The fields are searched from the first on. Before field i is compared, the search from field i on finds what the whole search finds.
-use Prim.Native.Nat.{◌-◌, ◌≤◌}
-use mathlib.Core.Path.{◌≡◌, sym, ap, ◌∙◌}
+use mathlib.Core.Path.{sym, ap, ◌∙◌}
 use native.Mathlib.Omega.{arith}
-use Rattle.definition.specs.Lists.{index_of, rows}
-use Rattle.classfile.specs.Lists.{shift, find-here, find-later, find-end, find-start}
-use Rattle.classfile.specs.Reading.{field_in, quick_fields, field_is, field_found}
-use borrow.Author.Rules.{rules}
+use Rattle.classfile.specs.Lists.{find-here, find-later, find-end, find-start}
+use Rattle.classfile.specs.Reading.{quick_fields, field_found}
 use Rattle.classfile.proofs.fields.find_field.Goals as goal
 
 pub loop-i-init : goal.loop-i-init

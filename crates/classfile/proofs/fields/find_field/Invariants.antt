@@ -1,10 +1,8 @@
 use Prim.Native.Nat.{◌-◌, ◌≤◌}
-use mathlib.Core.Path.{◌≡◌, sym, ap, ◌∙◌}
-use native.Mathlib.Omega.{arith}
+use mathlib.Core.Path.{◌≡◌}
 use Rattle.definition.specs.Lists.{index_of, rows}
-use Rattle.classfile.specs.Lists.{shift, find-here, find-later, find-end, find-start}
-use Rattle.classfile.specs.Reading.{field_in, quick_fields, field_is, field_found}
-use borrow.Author.Rules.{rules}
+use Rattle.classfile.specs.Lists.{shift}
+use Rattle.classfile.specs.Reading.{field_in, quick_fields, field_is}
 use Rattle.classfile.proofs.fields.find_field.Given as goal
 
 abbrev pub invariant-loop-i : goal.invariant-loop-i

@@ -1,7 +1,6 @@
 -- The name is compared, then the type.
 use borrow.Author.Tests.{eq-eqb, ne_eqb}
 use Rattle.classfile.specs.Reading.{field_is}
-use borrow.Author.Rules.{rules}
 use Rattle.classfile.proofs.fields.is_field.Goals as goal
 
 pub returns-then-field_name-name : goal.returns-then-field_name-name

@@ -1,11 +1,8 @@
 -- The fields are searched from the given one on. Before field i is compared, the search from field i on finds what the whole search finds.
-use Prim.Native.Nat.{◌-◌}
-use mathlib.Core.Path.{◌≡◌, sym, ◌∙◌}
+use mathlib.Core.Path.{sym, ◌∙◌}
 use borrow.Author.Tests.{eq-eqb, ne_eqb}
-use Rattle.definition.specs.Lists.{any, rows}
 use Rattle.layout.specs.Places.{any-hit, any-on, any-end}
-use Rattle.classfile.specs.Reading.{field_count, field_in, field_named}
-use borrow.Author.Rules.{rules}
+use Rattle.classfile.specs.Reading.{field_named}
 use Rattle.classfile.proofs.fields.named_from.Goals as goal
 
 pub loop-i-init : goal.loop-i-init

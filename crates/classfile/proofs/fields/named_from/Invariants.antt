@@ -1,10 +1,7 @@
 use Prim.Native.Nat.{◌-◌}
-use mathlib.Core.Path.{◌≡◌, sym, ◌∙◌}
-use borrow.Author.Tests.{eq-eqb, ne_eqb}
+use mathlib.Core.Path.{◌≡◌}
 use Rattle.definition.specs.Lists.{any, rows}
-use Rattle.layout.specs.Places.{any-hit, any-on, any-end}
 use Rattle.classfile.specs.Reading.{field_count, field_in, field_named}
-use borrow.Author.Rules.{rules}
 use Rattle.classfile.proofs.fields.named_from.Given as goal
 
 abbrev pub invariant-loop-i : goal.invariant-loop-i

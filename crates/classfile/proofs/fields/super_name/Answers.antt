@@ -1,6 +1,5 @@
 -- The superclass name stands at place 5.
 use Rattle.classfile.specs.Reading.{super_name}
-use borrow.Author.Rules.{rules}
 use Rattle.classfile.proofs.fields.super_name.Goals as goal
 
 pub returns : goal.returns

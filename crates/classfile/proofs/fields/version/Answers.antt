@@ -1,6 +1,5 @@
 -- The version byte stands first.
 use Rattle.classfile.specs.Reading.{file_version}
-use borrow.Author.Rules.{rules}
 use Rattle.classfile.proofs.fields.version.Goals as goal
 
 pub returns : goal.returns

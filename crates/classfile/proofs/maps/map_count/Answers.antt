@@ -1,6 +1,5 @@
 -- The count is the first byte.
 use Rattle.classfile.specs.Reading.{map_count}
-use borrow.Author.Rules.{rules}
 use Rattle.classfile.proofs.maps.map_count.Goals as goal
 
 pub returns : goal.returns

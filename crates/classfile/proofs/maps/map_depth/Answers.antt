@@ -1,6 +1,5 @@
 -- The operand count stands after the offset and the local types.
 use Rattle.classfile.specs.Reading.{map_depth}
-use borrow.Author.Rules.{rules}
 use Rattle.classfile.proofs.maps.map_depth.Goals as goal
 
 pub returns : goal.returns

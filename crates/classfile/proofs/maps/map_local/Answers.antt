@@ -1,6 +1,5 @@
 -- The local types stand after the offset.
 use Rattle.classfile.specs.Reading.{type_at}
-use borrow.Author.Rules.{rules}
 use Rattle.classfile.proofs.maps.map_local.Goals as goal
 
 pub returns : goal.returns

@@ -1,5 +1,4 @@
 -- A map begins with its offset.
-use borrow.Author.Rules.{rules}
 use Rattle.classfile.proofs.maps.map_offset.Goals as goal
 
 pub returns : goal.returns

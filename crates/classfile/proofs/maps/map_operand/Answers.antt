@@ -1,6 +1,5 @@
 -- The operand types stand after their count.
 use Rattle.classfile.specs.Reading.{type_at}
-use borrow.Author.Rules.{rules}
 use Rattle.classfile.proofs.maps.map_operand.Goals as goal
 
 pub returns : goal.returns

@@ -1,10 +1,8 @@
 -- Before map i is passed, its place is known.
-use Prim.Native.Nat.{◌+◌, ◌-◌, ◌*◌, ◌≤◌}
 use mathlib.Core.Path.{◌≡◌, ap, ◌∙◌}
 use native.Mathlib.Omega.{arith}
 use Rattle.classfile.proofs.Laws.{map_next}
 use Rattle.classfile.specs.Reading.{map_place}
-use borrow.Author.Rules.{rules}
 use Rattle.classfile.proofs.maps.maps_end.Goals as goal
 
 pub loop-i-init : goal.loop-i-init

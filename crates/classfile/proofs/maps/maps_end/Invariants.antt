@@ -1,9 +1,6 @@
 use Prim.Native.Nat.{◌+◌, ◌-◌, ◌*◌, ◌≤◌}
-use mathlib.Core.Path.{◌≡◌, ap, ◌∙◌}
-use native.Mathlib.Omega.{arith}
-use Rattle.classfile.proofs.Laws.{map_next}
+use mathlib.Core.Path.{◌≡◌}
 use Rattle.classfile.specs.Reading.{map_place}
-use borrow.Author.Rules.{rules}
 use Rattle.classfile.proofs.maps.maps_end.Given as goal
 
 abbrev pub invariant-loop-i : goal.invariant-loop-i

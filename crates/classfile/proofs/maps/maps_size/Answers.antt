@@ -4,7 +4,6 @@ use native.Mathlib.Omega.{arith}
 use Rattle.definition.specs.Instructions.{pick}
 use borrow.Author.Tests.{le-leb, lt-leb}
 use Rattle.classfile.specs.Reading.{maps_size}
-use borrow.Author.Rules.{rules}
 use Rattle.classfile.proofs.maps.maps_size.Goals as goal
 
 pub returns-then-version-lt-VERSION_TWO : goal.returns-then-version-lt-VERSION_TWO

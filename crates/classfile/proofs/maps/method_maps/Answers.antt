@@ -4,7 +4,6 @@ use Rattle.definition.specs.Instructions.{pick}
 use borrow.Author.Tests.{le-leb, lt-leb}
 use Rattle.classfile.proofs.Laws.{clipped-rest, nothing_left}
 use Rattle.classfile.specs.Reading.{code_place, code_length, code_end, map_bytes}
-use borrow.Author.Rules.{rules}
 use Rattle.classfile.proofs.maps.method_maps.Goals as goal
 
 pub returns-then-version-lt-VERSION_TWO : goal.returns-then-version-lt-VERSION_TWO

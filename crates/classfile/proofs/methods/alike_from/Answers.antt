@@ -1,14 +1,10 @@
 -- The methods are searched from the given one on. Before method j is compared, its place is known, and the search from method j on finds what
 -- the whole search finds.
-use Prim.Native.Nat.{◌-◌}
-use mathlib.Core.Path.{◌≡◌, sym, ap, ◌∙◌}
-use Rattle.definition.specs.Lists.{index_of, rows}
-use Rattle.definition.specs.Classes.{alike}
-use Rattle.classfile.specs.Lists.{shift, find-here, find-later, find-end}
+use mathlib.Core.Path.{sym, ap, ◌∙◌}
+use Rattle.classfile.specs.Lists.{find-here, find-later, find-end}
 use Rattle.classfile.proofs.Laws.{placed-next}
-use Rattle.classfile.specs.Reading.{method_count, method_in, method_found, Placed}
+use Rattle.classfile.specs.Reading.{method_in, method_found}
 use Rattle.classfile.specs.declared.MethodFound.{MethodFound}
-use borrow.Author.Rules.{rules}
 use Rattle.classfile.proofs.methods.alike_from.Goals as goal
 
 pub loop-j-init : goal.loop-j-init

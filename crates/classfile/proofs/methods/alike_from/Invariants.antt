@@ -1,12 +1,9 @@
 use Prim.Native.Nat.{◌-◌}
-use mathlib.Core.Path.{◌≡◌, sym, ap, ◌∙◌}
+use mathlib.Core.Path.{◌≡◌}
 use Rattle.definition.specs.Lists.{index_of, rows}
 use Rattle.definition.specs.Classes.{alike}
-use Rattle.classfile.specs.Lists.{shift, find-here, find-later, find-end}
-use Rattle.classfile.proofs.Laws.{placed-next}
-use Rattle.classfile.specs.Reading.{method_count, method_in, method_found, Placed}
-use Rattle.classfile.specs.declared.MethodFound.{MethodFound}
-use borrow.Author.Rules.{rules}
+use Rattle.classfile.specs.Lists.{shift}
+use Rattle.classfile.specs.Reading.{method_count, method_in, Placed}
 use Rattle.classfile.proofs.methods.alike_from.Given as goal
 
 abbrev pub invariant-loop-j : goal.invariant-loop-j

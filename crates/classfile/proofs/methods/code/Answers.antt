@@ -1,7 +1,6 @@
 -- Both ends of the part are clipped where the bytes end.
 use Rattle.classfile.proofs.Laws.{clipped}
 use Rattle.classfile.specs.Reading.{code_at, code_place, code_length}
-use borrow.Author.Rules.{rules}
 use Rattle.classfile.proofs.methods.code.Goals as goal
 
 pub returns : goal.returns

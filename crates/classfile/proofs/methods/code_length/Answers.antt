@@ -1,6 +1,5 @@
 -- The code length stands behind the result type.
 use Rattle.classfile.specs.Reading.{code_length}
-use borrow.Author.Rules.{rules}
 use Rattle.classfile.proofs.methods.code_length.Goals as goal
 
 pub returns : goal.returns

@@ -1,7 +1,6 @@
 -- The code begins behind the result type and the code length.
 use native.Mathlib.Omega.{arith}
 use Rattle.classfile.specs.Reading.{code_place}
-use borrow.Author.Rules.{rules}
 use Rattle.classfile.proofs.methods.code_place.Goals as goal
 
 pub returns : goal.returns

@@ -2,7 +2,6 @@
 use mathlib.Core.Path.{ap, ◌∙◌}
 use Rattle.classfile.specs.Lists.{find-start}
 use Rattle.classfile.specs.Reading.{quick_methods, method_found}
-use borrow.Author.Rules.{rules}
 use Rattle.classfile.proofs.methods.find_method.Goals as goal
 
 pub returns : goal.returns

@@ -1,7 +1,6 @@
 -- The methods begin after the fields and the byte with the method count.
 use native.Mathlib.Omega.{arith}
 use Rattle.classfile.specs.Reading.{field_place, method_place}
-use borrow.Author.Rules.{rules}
 use Rattle.classfile.proofs.methods.first_place.Goals as goal
 
 pub returns : goal.returns

@@ -1,6 +1,5 @@
 -- The byte with the method count stands where a field after the last would.
 use Rattle.classfile.specs.Reading.{method_count}
-use borrow.Author.Rules.{rules}
 use Rattle.classfile.proofs.methods.method_count.Goals as goal
 
 pub returns : goal.returns

@@ -1,7 +1,6 @@
 -- A number that is too large is answered at once.
 use Rattle.classfile.specs.Reading.{method_found}
 use Rattle.classfile.specs.Searches.{numbered-in, numbered-past}
-use borrow.Author.Rules.{rules}
 use Rattle.classfile.proofs.methods.method_place.Goals as goal
 
 pub returns-then-j-method_count : goal.returns-then-j-method_count

@@ -4,7 +4,6 @@ use Prim.Native.Nat.{◌+◌}
 use native.Mathlib.Omega.{arith}
 use Rattle.definition.specs.Instructions.{short_at}
 use Rattle.classfile.proofs.Laws.{next-first}
-use borrow.Author.Rules.{rules}
 use Rattle.classfile.proofs.methods.next_first.Goals as goal
 
 pub returns : goal.returns

@@ -4,7 +4,6 @@ use Prim.Native.Nat.{◌+◌, ◌-◌}
 use native.Mathlib.Omega.{arith}
 use Rattle.definition.specs.Instructions.{short_at}
 use Rattle.classfile.specs.Reading.{arguments_size, result_place, code_length, code_place, code_end, next_place}
-use borrow.Author.Rules.{rules}
 use Rattle.classfile.proofs.methods.next_later.Goals as goal
 
 pub returns : goal.returns

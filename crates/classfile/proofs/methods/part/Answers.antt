@@ -3,7 +3,6 @@ use Prim.Native.Nat.{◌+◌, ◌-◌}
 use mathlib.Core.Path.{◌≡◌, sym}
 use native.Mathlib.Omega.{arith}
 use Rattle.classfile.specs.Searches.{part-there, part-past}
-use borrow.Author.Rules.{rules}
 use Rattle.classfile.proofs.methods.part.Goals as goal
 
 pub returns-then-end-kept : goal.returns-then-end-kept

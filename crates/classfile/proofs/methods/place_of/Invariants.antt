@@ -1,8 +1,5 @@
 use Prim.Native.Nat.{◌-◌, ◌≤◌}
-use native.Mathlib.Omega.{arith}
-use Rattle.classfile.proofs.Laws.{placed-next, placed_at}
 use Rattle.classfile.specs.Reading.{Placed}
-use borrow.Author.Rules.{rules}
 use Rattle.classfile.proofs.methods.place_of.Given as goal
 
 abbrev pub invariant-loop-i : goal.invariant-loop-i

@@ -1,9 +1,6 @@
 -- Before record i is passed, its place is known.
-use Prim.Native.Nat.{◌-◌, ◌≤◌}
 use native.Mathlib.Omega.{arith}
 use Rattle.classfile.proofs.Laws.{placed-next, placed_at}
-use Rattle.classfile.specs.Reading.{Placed}
-use borrow.Author.Rules.{rules}
 use Rattle.classfile.proofs.methods.place_of_first.Goals as goal
 
 pub loop-i-preserved : goal.loop-i-preserved

@@ -1,12 +1,9 @@
 -- Before field i is tested, the test of the fields from i on says what the whole test says.
-use Prim.Native.Nat.{◌-◌}
-use mathlib.Core.Path.{◌≡◌, sym, ap, ◌∙◌}
-use borrow.Author.Tests.{not-true, not-false}
-use Rattle.definition.specs.Lists.{every, rows}
+use mathlib.Core.Path.{sym, ap, ◌∙◌}
+use Rattle.definition.specs.Lists.{every}
 use Rattle.layout.specs.Places.{rows_start}
 use Rattle.classfile.specs.Lists.{every_more, every-not, every-end}
-use Rattle.classfile.specs.Rules.{named_field, named_fields}
-use borrow.Author.Rules.{rules}
+use Rattle.classfile.specs.Rules.{named_fields}
 use Rattle.classfile.proofs.rules.are_fields_named.Goals as goal
 
 pub loop-i-init : goal.loop-i-init

@@ -1,11 +1,7 @@
 use Prim.Native.Nat.{◌-◌}
-use mathlib.Core.Path.{◌≡◌, sym, ap, ◌∙◌}
-use borrow.Author.Tests.{not-true, not-false}
+use mathlib.Core.Path.{◌≡◌}
 use Rattle.definition.specs.Lists.{every, rows}
-use Rattle.layout.specs.Places.{rows_start}
-use Rattle.classfile.specs.Lists.{every_more, every-not, every-end}
 use Rattle.classfile.specs.Rules.{named_field, named_fields}
-use borrow.Author.Rules.{rules}
 use Rattle.classfile.proofs.rules.are_fields_named.Given as goal
 
 abbrev pub invariant-loop-i : goal.invariant-loop-i

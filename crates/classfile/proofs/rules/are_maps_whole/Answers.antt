@@ -1,17 +1,15 @@
 -- Before map i is tested, its place and the least offset it may have are known, and the test of the maps from i on says what the test of all says.
-use Prim.Native.Nat.{◌+◌, ◌-◌, ◌*◌, ◌≤◌}
-use mathlib.Core.Path.{◌≡◌, sym, ap, ◌∙◌}
+use mathlib.Core.Path.{sym, ap, ◌∙◌}
 use mathlib.Core.List.{[]}
 use native.Mathlib.Omega.{arith}
-use borrow.Author.Tests.{le-leb, lt-leb, not-true, not-false}
-use Rattle.definition.specs.Lists.{every, rows}
+use borrow.Author.Tests.{le-leb, lt-leb}
+use Rattle.definition.specs.Lists.{every}
 use Rattle.layout.specs.Places.{rows_start}
 use Rattle.layout.specs.Tests.{true-every}
 use Rattle.classfile.proofs.Laws.{map_next, least-next}
 use Rattle.classfile.specs.Lists.{every_more, every-not, every-end, every_first, every-fails}
-use Rattle.classfile.specs.Reading.{map_count, map_place}
+use Rattle.classfile.specs.Reading.{map_place}
 use Rattle.classfile.specs.Rules.{least_offset, whole_map_in, whole_maps}
-use borrow.Author.Rules.{rules}
 use Rattle.classfile.proofs.rules.are_maps_whole.Goals as goal
 
 pub returns-then-maps-lt1 : goal.returns-then-maps-lt1

@@ -1,15 +1,12 @@
 -- Before method j is tested, its place is known, and the test of the methods from j on says what the test of all says.
-use Prim.Native.Nat.{◌-◌, ◌≤◌}
 use mathlib.Core.Path.{◌≡◌, sym, ap, ◌∙◌}
 use native.Mathlib.Omega.{arith}
-use borrow.Author.Tests.{not-true, not-false}
-use Rattle.definition.specs.Lists.{every, rows}
+use Rattle.definition.specs.Lists.{every}
 use Rattle.layout.specs.Places.{rows_start}
 use Rattle.classfile.specs.Lists.{every_more, every-not, every-end, every_first, every-fails, every-last}
 use Rattle.classfile.proofs.Laws.{placed-next}
-use Rattle.classfile.specs.Reading.{method_count, Placed}
+use Rattle.classfile.specs.Reading.{method_count}
 use Rattle.classfile.specs.Rules.{whole_method_in, whole_methods}
-use borrow.Author.Rules.{rules}
 use Rattle.classfile.proofs.rules.are_methods_whole.Goals as goal
 
 pub loop-j-init : goal.loop-j-init

@@ -1,14 +1,8 @@
 use Prim.Native.Nat.{◌-◌, ◌≤◌}
-use mathlib.Core.Path.{◌≡◌, sym, ap, ◌∙◌}
-use native.Mathlib.Omega.{arith}
-use borrow.Author.Tests.{not-true, not-false}
+use mathlib.Core.Path.{◌≡◌}
 use Rattle.definition.specs.Lists.{every, rows}
-use Rattle.layout.specs.Places.{rows_start}
-use Rattle.classfile.specs.Lists.{every_more, every-not, every-end, every_first, every-fails, every-last}
-use Rattle.classfile.proofs.Laws.{placed-next}
 use Rattle.classfile.specs.Reading.{method_count, Placed}
-use Rattle.classfile.specs.Rules.{whole_method_in, whole_methods}
-use borrow.Author.Rules.{rules}
+use Rattle.classfile.specs.Rules.{whole_method_in}
 use Rattle.classfile.proofs.rules.are_methods_whole.Given as goal
 
 abbrev pub invariant-loop-j : goal.invariant-loop-j

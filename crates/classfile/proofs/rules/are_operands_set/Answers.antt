@@ -1,12 +1,10 @@
 -- Before operand i is tested, the test of the types from i on says what the whole test says.
-use Prim.Native.Nat.{◌+◌, ◌-◌}
-use mathlib.Core.Path.{◌≡◌, sym, ap, ◌∙◌}
+use mathlib.Core.Path.{sym, ap, ◌∙◌}
 use borrow.Author.Tests.{le-leb, lt-leb}
-use Rattle.definition.specs.Lists.{every, rows}
+use Rattle.definition.specs.Lists.{every}
 use Rattle.layout.specs.Places.{rows_start}
 use Rattle.classfile.specs.Lists.{every_more, every-not, every-end}
 use Rattle.classfile.specs.Rules.{type_set, operands_set}
-use borrow.Author.Rules.{rules}
 use Rattle.classfile.proofs.rules.are_operands_set.Goals as goal
 
 pub loop-i-init : goal.loop-i-init

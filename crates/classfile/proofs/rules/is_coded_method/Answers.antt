@@ -4,7 +4,6 @@ use borrow.Author.Tests.{le-leb, lt-leb}
 use Rattle.classfile.specs.Lists.{every_first, every-fails, every-last}
 use Rattle.classfile.specs.Reading.{code_end}
 use Rattle.classfile.specs.Rules.{coded_method}
-use borrow.Author.Rules.{rules}
 use Rattle.classfile.proofs.rules.is_coded_method.Goals as goal
 
 pub returns-then-length-lt1 : goal.returns-then-length-lt1

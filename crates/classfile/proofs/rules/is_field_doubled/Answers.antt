@@ -1,12 +1,10 @@
 -- Before field i is compared with the later ones, two of the fields from i on have one name exactly if two of all have.
-use Prim.Native.Nat.{◌-◌}
-use mathlib.Core.Path.{◌≡◌, sym, ap, ◌∙◌}
-use Rattle.definition.specs.Lists.{doubled, rows}
+use mathlib.Core.Path.{sym, ap, ◌∙◌}
+use Rattle.definition.specs.Lists.{doubled}
 use Rattle.definition.specs.File.{same_field}
 use Rattle.layout.specs.Places.{rows_start}
 use Rattle.classfile.specs.Lists.{doubled-row, doubled-more, doubled-end}
-use Rattle.classfile.specs.Reading.{field_in, quick_fields, field_named}
-use borrow.Author.Rules.{rules}
+use Rattle.classfile.specs.Reading.{quick_fields, field_named}
 use Rattle.classfile.proofs.rules.is_field_doubled.Goals as goal
 
 pub loop-i-init : goal.loop-i-init

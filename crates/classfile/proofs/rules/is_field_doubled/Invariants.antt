@@ -1,11 +1,8 @@
 use Prim.Native.Nat.{◌-◌}
-use mathlib.Core.Path.{◌≡◌, sym, ap, ◌∙◌}
+use mathlib.Core.Path.{◌≡◌}
 use Rattle.definition.specs.Lists.{doubled, rows}
 use Rattle.definition.specs.File.{same_field}
-use Rattle.layout.specs.Places.{rows_start}
-use Rattle.classfile.specs.Lists.{doubled-row, doubled-more, doubled-end}
-use Rattle.classfile.specs.Reading.{field_in, quick_fields, field_named}
-use borrow.Author.Rules.{rules}
+use Rattle.classfile.specs.Reading.{field_in, quick_fields}
 use Rattle.classfile.proofs.rules.is_field_doubled.Given as goal
 
 abbrev pub invariant-loop-i : goal.invariant-loop-i

@@ -3,7 +3,6 @@ use mathlib.Core.Path.{refl}
 use borrow.Author.Tests.{le-leb, lt-leb}
 use Rattle.definition.specs.Instructions.{pick}
 use Rattle.classfile.specs.Rules.{listed_method}
-use borrow.Author.Rules.{rules}
 use Rattle.classfile.proofs.rules.is_listed_method.Goals as goal
 
 pub returns-then-version-lt-VERSION_THREE : goal.returns-then-version-lt-VERSION_THREE

@@ -3,7 +3,6 @@ use mathlib.Core.Path.{◌∙◌, ap}
 use Rattle.definition.specs.Instructions.{pick}
 use borrow.Author.Tests.{le-leb, lt-leb}
 use Rattle.classfile.specs.Rules.{whole_maps, mapped_method}
-use borrow.Author.Rules.{rules}
 use Rattle.classfile.proofs.rules.is_mapped_method.Goals as goal
 
 pub returns-then-version-lt-VERSION_TWO : goal.returns-then-version-lt-VERSION_TWO

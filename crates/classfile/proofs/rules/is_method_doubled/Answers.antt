@@ -1,14 +1,12 @@
 -- Before method j is compared with the later ones, its place is known, and two of the methods from j on are alike exactly if two of all are.
-use Prim.Native.Nat.{◌-◌, ◌≤◌}
-use mathlib.Core.Path.{◌≡◌, sym, ap, ◌∙◌}
+use mathlib.Core.Path.{sym, ap, ◌∙◌}
 use native.Mathlib.Omega.{arith}
-use Rattle.definition.specs.Lists.{doubled, rows}
+use Rattle.definition.specs.Lists.{doubled}
 use Rattle.definition.specs.File.{same_method}
 use Rattle.layout.specs.Places.{rows_start}
 use Rattle.classfile.specs.Lists.{doubled-row, doubled-more, doubled-end}
 use Rattle.classfile.proofs.Laws.{placed-next}
-use Rattle.classfile.specs.Reading.{method_in, quick_methods, Placed}
-use borrow.Author.Rules.{rules}
+use Rattle.classfile.specs.Reading.{quick_methods}
 use Rattle.classfile.proofs.rules.is_method_doubled.Goals as goal
 
 pub loop-j-init : goal.loop-j-init

@@ -1,13 +1,8 @@
 use Prim.Native.Nat.{◌-◌, ◌≤◌}
-use mathlib.Core.Path.{◌≡◌, sym, ap, ◌∙◌}
-use native.Mathlib.Omega.{arith}
+use mathlib.Core.Path.{◌≡◌}
 use Rattle.definition.specs.Lists.{doubled, rows}
 use Rattle.definition.specs.File.{same_method}
-use Rattle.layout.specs.Places.{rows_start}
-use Rattle.classfile.specs.Lists.{doubled-row, doubled-more, doubled-end}
-use Rattle.classfile.proofs.Laws.{placed-next}
 use Rattle.classfile.specs.Reading.{method_in, quick_methods, Placed}
-use borrow.Author.Rules.{rules}
 use Rattle.classfile.proofs.rules.is_method_doubled.Given as goal
 
 abbrev pub invariant-loop-j : goal.invariant-loop-j

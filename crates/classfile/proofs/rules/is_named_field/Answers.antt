@@ -3,7 +3,6 @@ use mathlib.Core.Path.{sym, ◌∙◌}
 use borrow.Author.Tests.{le-leb, lt-leb}
 use Rattle.classfile.specs.Lists.{every_first, every-fails, every-last}
 use Rattle.classfile.specs.Rules.{named_field}
-use borrow.Author.Rules.{rules}
 use Rattle.classfile.proofs.rules.is_named_field.Goals as goal
 
 pub returns-then-field_name-lt1 : goal.returns-then-field_name-lt1

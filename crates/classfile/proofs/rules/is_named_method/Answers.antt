@@ -3,7 +3,6 @@ use mathlib.Core.Path.{ap, ◌∙◌}
 use Rattle.definition.specs.Classes.{is_named}
 use Rattle.classfile.specs.Reading.{method_at}
 use Rattle.classfile.specs.Rules.{named_method}
-use borrow.Author.Rules.{rules}
 use Rattle.classfile.proofs.rules.is_named_method.Goals as goal
 
 pub returns : goal.returns

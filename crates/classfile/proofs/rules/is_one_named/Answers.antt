@@ -3,7 +3,6 @@ use mathlib.Core.Path.{sym, ◌∙◌}
 use borrow.Author.Tests.{le-leb, lt-leb}
 use Rattle.classfile.specs.Lists.{every_first, every-fails, every-last}
 use Rattle.classfile.proofs.Laws.{one-named}
-use borrow.Author.Rules.{rules}
 use Rattle.classfile.proofs.rules.is_one_named.Goals as goal
 
 pub returns-then-short_at-lt1 : goal.returns-then-short_at-lt1

@@ -5,7 +5,6 @@ use Rattle.definition.specs.File.{same_method}
 use Rattle.classfile.proofs.Laws.{placed-next}
 use Rattle.classfile.specs.Reading.{method_in}
 use Rattle.classfile.specs.Searches.{method-later, method-never}
-use borrow.Author.Rules.{rules}
 use Rattle.classfile.proofs.rules.is_repeated.Goals as goal
 
 pub alike_from-later-requires : goal.alike_from-later-requires

@@ -7,7 +7,6 @@ use borrow.Author.Tests.{le-leb, lt-leb}
 use Rattle.classfile.specs.Lists.{every_first, every-fails, every-last}
 use Rattle.classfile.specs.Reading.{file_version, method_place}
 use Rattle.classfile.specs.Rules.{sized}
-use borrow.Author.Rules.{rules}
 use Rattle.classfile.proofs.rules.is_sized.Goals as goal
 
 pub returns-then-size-gt-FILE_LIMIT : goal.returns-then-size-gt-FILE_LIMIT

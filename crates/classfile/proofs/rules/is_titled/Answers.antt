@@ -6,7 +6,6 @@ use borrow.Author.Tests.{le-leb, lt-leb}
 use Rattle.classfile.specs.Lists.{every_first, every-fails, every-last}
 use Rattle.classfile.specs.Reading.{class_name, super_name, field_count}
 use Rattle.classfile.specs.Rules.{titled}
-use borrow.Author.Rules.{rules}
 use Rattle.classfile.proofs.rules.is_titled.Goals as goal
 
 pub returns-then-class_name-lt-NAME_OBJECT : goal.returns-then-class_name-lt-NAME_OBJECT

@@ -8,7 +8,6 @@ use Rattle.definition.specs.Instructions.{short_at}
 use Rattle.classfile.specs.Lists.{every_first, every-fails, every-last}
 use Rattle.classfile.specs.Reading.{map_depth, map_end}
 use Rattle.classfile.specs.Rules.{whole_map}
-use borrow.Author.Rules.{rules}
 use Rattle.classfile.proofs.rules.is_whole_map.Goals as goal
 
 pub returns-then-from16-low : goal.returns-then-from16-low

@@ -1,9 +1,7 @@
 -- The count of the arguments first, names and types, then the code, then the maps.
 use mathlib.Core.Path.{sym, ◌∙◌}
-use borrow.Author.Tests.{not-true, not-false}
 use Rattle.classfile.specs.Lists.{every_first, every-fails, every-last}
 use Rattle.classfile.specs.Rules.{whole_method}
-use borrow.Author.Rules.{rules}
 use Rattle.classfile.proofs.rules.is_whole_method.Goals as goal
 
 pub returns-then-not-is_listed_method : goal.returns-then-not-is_listed_method

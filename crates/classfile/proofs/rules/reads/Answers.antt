@@ -1,11 +1,9 @@
 -- The rules are tested one after another, and the first that fails is answered; those that passed before it are known.
 use mathlib.Core.Path.{◌≡◌, sym, ap, ◌∙◌}
 use mathlib.Core.Bool.{true, not}
-use borrow.Author.Tests.{not-true, not-false}
 use Rattle.classfile.specs.Lists.{every_first, every-fails, every-last}
 use Rattle.classfile.specs.Rules.{sized, titled, named_fields, whole_methods, readable}
 use Rattle.classfile.specs.Laws.{reads_as}
-use borrow.Author.Rules.{rules}
 use Rattle.classfile.proofs.rules.reads.Goals as goal
 
 pub returns-then-not-is_sized : goal.returns-then-not-is_sized

@@ -1,6 +1,5 @@
 -- The count stands two bytes after the record's place.
 use Rattle.classfile.specs.Reading.{argument_number}
-use borrow.Author.Rules.{rules}
 use Rattle.classfile.proofs.signatures.argument_number.Goals as goal
 
 pub returns : goal.returns

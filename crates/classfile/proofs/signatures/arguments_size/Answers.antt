@@ -1,10 +1,9 @@
 -- One type before version 3, a count and as many types from there on.
-use mathlib.Core.Path.{◌≡◌, refl}
+use mathlib.Core.Path.{refl}
 use native.Mathlib.Omega.{arith}
 use borrow.Author.Tests.{le-leb, lt-leb}
 use Rattle.definition.specs.Instructions.{pick}
 use Rattle.classfile.specs.Reading.{arguments_size}
-use borrow.Author.Rules.{rules}
 use Rattle.classfile.proofs.signatures.arguments_size.Goals as goal
 
 pub returns-then-version-lt-VERSION_THREE : goal.returns-then-version-lt-VERSION_THREE

@@ -1,9 +1,8 @@
 -- The name is compared, then the arguments, then the result type.
 use mathlib.Core.Path.{sym, ◌∙◌}
-use borrow.Author.Tests.{eq-eqb, ne_eqb, not-true, not-false}
+use borrow.Author.Tests.{eq-eqb, ne_eqb}
 use Rattle.definition.specs.Classes.{alike, same_signature}
 use Rattle.classfile.specs.Reading.{quick_signature, method_at}
-use borrow.Author.Rules.{rules}
 use Rattle.classfile.proofs.signatures.is_alike.Goals as goal
 
 pub returns-then-method_name-s : goal.returns-then-method_name-s

@@ -1,16 +1,9 @@
-use mathlib.Core.Path.{◌≡◌, refl, sym, ◌∙◌}
-use mathlib.Core.Bool.{true, false}
-use mathlib.Core.List.{List}
-use Prim.Native.Nat.{ℕ, ◌+◌, ◌-◌, ◌≤◌, ◌<◌}
-use native.Mathlib.Omega.{arith}
-use native.Mathlib.Numerals.{add-one}
-use lib.ListN.{length, get_or, drop, drop_of_length-le}
-use lib.Seq.{drop-cons}
+use mathlib.Core.Path.{◌≡◌}
+use Prim.Native.Nat.{◌-◌}
+use lib.ListN.{drop}
 use lib.Dec.{leb}
-use borrow.Author.Tests.{le-leb, lt-leb}
 use Rattle.definition.specs.Lists.{all}
-use Rattle.definition.specs.Classes.{types_of, is_named}
-use borrow.Author.Rules.{rules}
+use Rattle.definition.specs.Classes.{types_of}
 use Rattle.classfile.proofs.signatures.is_named.Given as goal
 
 abbrev pub invariant-loop-i : goal.invariant-loop-i

@@ -1,6 +1,5 @@
 -- The name, the arguments and the result type, each as it was read.
 use Rattle.classfile.specs.Reading.{quick_signature, method_at}
-use borrow.Author.Rules.{rules}
 use Rattle.classfile.proofs.signatures.list_signature.Goals as goal
 
 pub returns : goal.returns

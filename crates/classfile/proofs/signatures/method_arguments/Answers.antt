@@ -1,12 +1,10 @@
 -- One type before version 3, a list from there on.
-use mathlib.Core.Path.{◌≡◌, refl, ap, ◌∙◌}
+use mathlib.Core.Path.{◌≡◌, refl}
 use Prim.Native.Nat.{◌+◌}
 use native.Mathlib.Omega.{arith}
 use borrow.Author.Tests.{le-leb, lt-leb}
 use Rattle.definition.specs.Instructions.{pick}
-use Rattle.cells.specs.Listed.{list_at}
 use Rattle.classfile.specs.Reading.{arguments_at}
-use borrow.Author.Rules.{rules}
 use Rattle.classfile.proofs.signatures.method_arguments.Goals as goal
 
 pub returns-then-version-lt-VERSION_THREE : goal.returns-then-version-lt-VERSION_THREE

@@ -1,6 +1,5 @@
 -- The name begins at the record's place.
 use Rattle.classfile.specs.Reading.{quick_signature, method_at}
-use borrow.Author.Rules.{rules}
 use Rattle.classfile.proofs.signatures.method_name.Goals as goal
 
 pub returns : goal.returns

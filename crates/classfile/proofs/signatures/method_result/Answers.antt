@@ -1,6 +1,5 @@
 -- The result type stands at its place.
 use Rattle.classfile.specs.Reading.{quick_signature, method_at}
-use borrow.Author.Rules.{rules}
 use Rattle.classfile.proofs.signatures.method_result.Goals as goal
 
 pub returns : goal.returns

@@ -1,7 +1,6 @@
 -- The three parts stand two bytes apart.
 use mathlib.Core.Path.{sym}
 use Rattle.classfile.proofs.Laws.{one_signature}
-use borrow.Author.Rules.{rules}
 use Rattle.classfile.proofs.signatures.one_signature.Goals as goal
 
 pub returns : goal.returns

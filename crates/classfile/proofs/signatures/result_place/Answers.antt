@@ -1,7 +1,6 @@
 -- The result type stands behind the name and the arguments.
 use native.Mathlib.Omega.{arith}
 use Rattle.classfile.specs.Reading.{result_place}
-use borrow.Author.Rules.{rules}
 use Rattle.classfile.proofs.signatures.result_place.Goals as goal
 
 pub returns : goal.returns

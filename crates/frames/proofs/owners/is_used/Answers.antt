@@ -1,5 +1,4 @@
 -- A number is used just if it is below the object count and its row has an owner.
-use borrow.Author.Rules.{rules}
 use borrow.Author.Tests.{lt-ltb, le-ltb}
 use Rattle.definition.specs.Instructions.{pick}
 use Rattle.frames.specs.Unused.{is_used}

@@ -1,10 +1,9 @@
 -- The rows that the table holds are counted. The loop's invariant: those counted and those from row o on are all of them.
 use mathlib.Core.Path.{◌≡◌, ap, ◌∙◌}
-use mathlib.Core.Logic.{◌≢◌, inl, inr}
+use mathlib.Core.Logic.{◌≢◌}
 use mathlib.Core.List.{List}
-use Prim.Native.Nat.{ℕ, suc, ◌+◌, ◌-◌, ◌<◌, ◌≤◌}
+use Prim.Native.Nat.{ℕ, suc, ◌+◌, ◌-◌, ◌<◌}
 use native.Mathlib.Omega.{arith}
-use borrow.Author.Rules.{rules}
 use Rattle.definition.specs.Tables.{owner_at}
 use Rattle.frames.specs.Made.{owned_in, owned-one, owned-other, owned-end, held-made}
 use Rattle.frames.proofs.owners.made_by.Invariants.{Counted}

@@ -1,11 +1,7 @@
-use mathlib.Core.Path.{◌≡◌, ap, ◌∙◌}
-use mathlib.Core.Logic.{◌≢◌, inl, inr}
+use mathlib.Core.Path.{◌≡◌}
 use mathlib.Core.List.{List}
-use Prim.Native.Nat.{ℕ, suc, ◌+◌, ◌-◌, ◌<◌, ◌≤◌}
-use native.Mathlib.Omega.{arith}
-use borrow.Author.Rules.{rules}
-use Rattle.definition.specs.Tables.{owner_at}
-use Rattle.frames.specs.Made.{owned_in, owned-one, owned-other, owned-end, held-made}
+use Prim.Native.Nat.{ℕ, ◌+◌, ◌-◌, ◌≤◌}
+use Rattle.frames.specs.Made.{owned_in}
 use Rattle.frames.proofs.owners.made_by.Given as goal
 
 abbrev pub Counted : List ℕ → ℕ → ℕ → ℕ → ℕ → Type 0

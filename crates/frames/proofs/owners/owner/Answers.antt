@@ -1,5 +1,4 @@
 -- A row's owner is read behind the counts.
-use borrow.Author.Rules.{rules}
 use Rattle.definition.specs.Tables.{owner_at}
 use Rattle.frames.proofs.owners.owner.Goals as goal
 

@@ -1,11 +1,9 @@
 -- The lowest row unused from a row on is found. The loop's invariant: what is sought from row o on is what was asked for.
 use mathlib.Core.Path.{◌≡◌, sym, ◌∙◌}
 use mathlib.Core.Logic.{◌≢◌}
-use Prim.Native.Nat.{◌-◌}
 use native.Mathlib.Omega.{arith}
-use borrow.Author.Rules.{rules}
 use Rattle.definition.specs.Tables.{owner_at}
-use Rattle.frames.specs.Unused.{ownerless, unused_from, ownerless-here, ownerless-on, ownerless-end}
+use Rattle.frames.specs.Unused.{unused_from, ownerless-here, ownerless-on, ownerless-end}
 use Rattle.frames.proofs.owners.unused.Goals as goal
 
 pub loop-o-init : goal.loop-o-init

@@ -1,10 +1,6 @@
-use mathlib.Core.Path.{◌≡◌, sym, ◌∙◌}
-use mathlib.Core.Logic.{◌≢◌}
+use mathlib.Core.Path.{◌≡◌}
 use Prim.Native.Nat.{◌-◌}
-use native.Mathlib.Omega.{arith}
-use borrow.Author.Rules.{rules}
-use Rattle.definition.specs.Tables.{owner_at}
-use Rattle.frames.specs.Unused.{ownerless, unused_from, ownerless-here, ownerless-on, ownerless-end}
+use Rattle.frames.specs.Unused.{ownerless, unused_from}
 use Rattle.frames.proofs.owners.unused.Given as goal
 
 abbrev pub invariant-loop-o : goal.invariant-loop-o

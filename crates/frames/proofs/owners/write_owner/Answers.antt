@@ -1,5 +1,4 @@
 -- A row's owner is written, and no other cell.
-use borrow.Author.Rules.{rules}
 use Rattle.frames.proofs.owners.write_owner.Goals as goal
 
 pub returns : goal.returns

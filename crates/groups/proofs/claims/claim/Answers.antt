@@ -1,10 +1,9 @@
 -- The row is the first that names the request, or its group is joined to that which stands there.
-use mathlib.Core.Path.{◌≡◌, refl, sym, ap, ◌∙◌}
+use mathlib.Core.Path.{refl, sym, ◌∙◌}
 use Prim.Native.Nat.{◌-◌}
 use native.Mathlib.Omega.{arith}
 use Rattle.groups.specs.Claims.{fresh, joins}
 use Rattle.groups.proofs.Rooting.{joined-low}
-use borrow.Author.Rules.{rules}
 use Rattle.groups.proofs.claims.claim.Goals as goal
 
 pub returns-then-first-eq0 : goal.returns-then-first-eq0

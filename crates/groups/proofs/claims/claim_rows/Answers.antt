@@ -1,14 +1,11 @@
 -- The first i rows have named their requests.
 use mathlib.Core.Path.{◌≡◌, refl, sym, ap, ◌∙◌}
-use Prim.Native.Nat.{ℕ, ◌*◌, ◌-◌, ◌<◌, ◌≤◌}
+use Prim.Native.Nat.{ℕ, ◌*◌, ◌<◌, ◌≤◌}
 use native.Mathlib.Omega.{arith}
 use lib.ListN.{length, length-replicate}
-use Rattle.groups.specs.Claims.{Claimed, Naming}
-use Rattle.groups.specs.Lowest.{RowTied}
 use Rattle.groups.proofs.Rooting.{root-low, root-top, root-tops}
 use Rattle.groups.proofs.Claiming.{claimed-none, claim-long}
 use Rattle.groups.proofs.Tying.{key-fits, one-first, one-lead, one-claimed, two-first, two-claimed}
-use borrow.Author.Rules.{rules}
 use Rattle.groups.proofs.claims.claim_rows.Goals as goal
 
 pub loop-i-init : goal.loop-i-init

@@ -1,13 +1,8 @@
-use mathlib.Core.Path.{◌≡◌, refl, sym, ap, ◌∙◌}
-use Prim.Native.Nat.{ℕ, ◌*◌, ◌-◌, ◌<◌, ◌≤◌}
-use native.Mathlib.Omega.{arith}
-use lib.ListN.{length, length-replicate}
+use mathlib.Core.Path.{◌≡◌}
+use Prim.Native.Nat.{◌-◌, ◌≤◌}
+use lib.ListN.{length}
 use Rattle.groups.specs.Claims.{Claimed, Naming}
 use Rattle.groups.specs.Lowest.{RowTied}
-use Rattle.groups.proofs.Rooting.{root-low, root-top, root-tops}
-use Rattle.groups.proofs.Claiming.{claimed-none, claim-long}
-use Rattle.groups.proofs.Tying.{key-fits, one-first, one-lead, one-claimed, two-first, two-claimed}
-use borrow.Author.Rules.{rules}
 use Rattle.groups.proofs.claims.claim_rows.Given as goal
 
 abbrev pub invariant-loop-i : goal.invariant-loop-i

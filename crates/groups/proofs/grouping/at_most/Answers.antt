@@ -1,7 +1,6 @@
 -- A count within the limit is itself, another is the limit.
 use mathlib.Core.Path.{refl}
 use native.Mathlib.Omega.{arith}
-use borrow.Author.Rules.{rules}
 use borrow.Author.Tests.{lt-leb, le-leb}
 use Rattle.groups.specs.Lowest.{at_most}
 use Rattle.groups.proofs.grouping.at_most.Goals as goal

@@ -1,10 +1,8 @@
 -- The first i cells are copied.
-use mathlib.Core.Path.{◌≡◌, refl, sym, ap, ◌∙◌}
-use Prim.Native.Nat.{ℕ, ◌-◌, ◌<◌, ◌≤◌}
+use mathlib.Core.Path.{◌≡◌, sym, ◌∙◌}
 use native.Mathlib.Omega.{arith}
-use lib.ListN.{length, get_or, length-set}
+use lib.ListN.{get_or, length-set}
 use Rattle.groups.proofs.Filling.{fill_more}
-use borrow.Author.Rules.{rules}
 use Rattle.groups.proofs.grouping.copy_cells.Goals as goal
 
 pub loop-i-init : goal.loop-i-init

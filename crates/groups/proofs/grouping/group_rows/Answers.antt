@@ -1,6 +1,5 @@
 -- No rows, a table too short for the groups, rows of which the table of ties has a part, and rows that it has.
 use Rattle.groups.proofs.Answering.{as-counted, answer-none, answer-short, answer-whole}
-use borrow.Author.Rules.{rules}
 use Rattle.groups.proofs.grouping.group_rows.Goals as goal
 
 pub returns-then-n-eq0 : goal.returns-then-n-eq0

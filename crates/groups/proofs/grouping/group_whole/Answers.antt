@@ -1,8 +1,6 @@
 -- A loader past the last, and the groups.
 use mathlib.Core.Path.{sym, ◌∙◌}
-use borrow.Author.Tests.{not-false, not-true}
 use Rattle.groups.proofs.Answering.{all-loaders, answer-unfit, answer-groups}
-use borrow.Author.Rules.{rules}
 use Rattle.groups.proofs.grouping.group_whole.Goals as goal
 
 pub returns-then-not-rows_fit : goal.returns-then-not-rows_fit

@@ -1,6 +1,5 @@
 -- Rows that name one request share a root, and only rows that a chain of ties joins.
 use Rattle.groups.proofs.Tying.{roots-groups}
-use borrow.Author.Rules.{rules}
 use Rattle.groups.proofs.grouping.list_named.Goals as goal
 
 pub returns : goal.returns

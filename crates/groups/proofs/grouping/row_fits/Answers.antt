@@ -1,7 +1,6 @@
 -- Two cells of the row are compared.
 use mathlib.Core.Path.{refl}
 use Rattle.groups.proofs.Claiming.{fits-one, fits-two}
-use borrow.Author.Rules.{rules}
 use Rattle.groups.proofs.grouping.row_fits.Goals as goal
 
 pub returns-then-ties-row-ge-LOADERS : goal.returns-then-ties-row-ge-LOADERS

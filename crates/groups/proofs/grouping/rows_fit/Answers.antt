@@ -1,12 +1,8 @@
 -- Before row i is tested, the rows from i on pass exactly if all do.
-use mathlib.Core.Path.{◌∙◌, ◌≡◌, ap, sym}
-use Prim.Native.Nat.{◌-◌, ◌≤◌}
+use mathlib.Core.Path.{◌∙◌, ap, sym}
 use native.Mathlib.Omega.{arith}
-use borrow.Author.Rules.{rules}
-use borrow.Author.Tests.{not-false, not-true}
 use Rattle.definition.specs.Broken.{tie_fits}
-use Rattle.definition.specs.Lists.{all, rows}
-use Rattle.definition.specs.Tables.{tie_at}
+use Rattle.definition.specs.Lists.{all}
 use Rattle.layout.specs.Places.{rows_start, rows_end, rows-hit, rows_on}
 use Rattle.groups.proofs.grouping.rows_fit.Goals as goal
 

@@ -1,12 +1,8 @@
-use mathlib.Core.Path.{◌∙◌, ◌≡◌, ap, sym}
+use mathlib.Core.Path.{◌≡◌}
 use Prim.Native.Nat.{◌-◌, ◌≤◌}
-use native.Mathlib.Omega.{arith}
-use borrow.Author.Rules.{rules}
-use borrow.Author.Tests.{not-false, not-true}
 use Rattle.definition.specs.Broken.{tie_fits}
 use Rattle.definition.specs.Lists.{all, rows}
 use Rattle.definition.specs.Tables.{tie_at}
-use Rattle.layout.specs.Places.{rows_start, rows_end, rows-hit, rows_on}
 use Rattle.groups.proofs.grouping.rows_fit.Given as goal
 
 abbrev pub invariant-loop-i : goal.invariant-loop-i

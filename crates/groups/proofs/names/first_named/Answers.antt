@@ -1,10 +1,8 @@
 -- No row before row q has the name.
-use mathlib.Core.Path.{◌≡◌, refl, sym, ◌∙◌}
-use Prim.Native.Nat.{ℕ, ◌-◌, ◌<◌, ◌≤◌}
+use mathlib.Core.Path.{◌≡◌, refl}
 use native.Mathlib.Omega.{arith}
 use Rattle.groups.specs.Firsts.{name_in}
 use Rattle.groups.proofs.Filling.{none_yet}
-use borrow.Author.Rules.{rules}
 use Rattle.groups.proofs.names.first_named.Goals as goal
 
 pub loop-q-init : goal.loop-q-init

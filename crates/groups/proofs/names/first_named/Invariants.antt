@@ -1,9 +1,6 @@
-use mathlib.Core.Path.{◌≡◌, refl, sym, ◌∙◌}
+use mathlib.Core.Path.{◌≡◌}
 use Prim.Native.Nat.{ℕ, ◌-◌, ◌<◌, ◌≤◌}
-use native.Mathlib.Omega.{arith}
 use Rattle.groups.specs.Firsts.{name_in}
-use Rattle.groups.proofs.Filling.{none_yet}
-use borrow.Author.Rules.{rules}
 use Rattle.groups.proofs.names.first_named.Given as goal
 
 abbrev pub invariant-loop-q : goal.invariant-loop-q

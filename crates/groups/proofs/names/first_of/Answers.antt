@@ -1,8 +1,7 @@
 -- A row before p stands there, or p is written.
-use mathlib.Core.Path.{◌≡◌, refl, sym, ap, ◌∙◌}
+use mathlib.Core.Path.{refl}
 use native.Mathlib.Omega.{arith}
 use Rattle.groups.specs.Firsts.{older, first}
-use borrow.Author.Rules.{rules}
 use Rattle.groups.proofs.names.first_of.Goals as goal
 
 pub returns-then-first-p : goal.returns-then-first-p

@@ -1,11 +1,9 @@
 -- The first p rows have their nodes.
-use mathlib.Core.Path.{◌≡◌, refl, sym, ◌∙◌}
-use Prim.Native.Nat.{ℕ, ◌-◌, ◌<◌, ◌≤◌}
+use mathlib.Core.Path.{◌≡◌, sym, ◌∙◌}
 use native.Mathlib.Omega.{arith}
-use lib.ListN.{length, length-set}
-use Rattle.groups.specs.Firsts.{First, NodesOf, name_in}
+use lib.ListN.{length-set}
+use Rattle.groups.specs.Firsts.{First, name_in}
 use Rattle.groups.proofs.Filling.{fill_more}
-use borrow.Author.Rules.{rules}
 use Rattle.groups.proofs.names.number_few.Goals as goal
 
 pub loop-p-init : goal.loop-p-init

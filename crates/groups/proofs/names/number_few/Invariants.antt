@@ -1,10 +1,7 @@
-use mathlib.Core.Path.{◌≡◌, refl, sym, ◌∙◌}
-use Prim.Native.Nat.{ℕ, ◌-◌, ◌<◌, ◌≤◌}
-use native.Mathlib.Omega.{arith}
-use lib.ListN.{length, length-set}
-use Rattle.groups.specs.Firsts.{First, NodesOf, name_in}
-use Rattle.groups.proofs.Filling.{fill_more}
-use borrow.Author.Rules.{rules}
+use mathlib.Core.Path.{◌≡◌}
+use Prim.Native.Nat.{◌-◌, ◌≤◌}
+use lib.ListN.{length}
+use Rattle.groups.specs.Firsts.{NodesOf, name_in}
 use Rattle.groups.proofs.names.number_few.Given as goal
 
 abbrev pub invariant-loop-p : goal.invariant-loop-p

@@ -1,11 +1,10 @@
 -- The first p rows have their nodes, and are entered by their names.
-use mathlib.Core.Path.{◌≡◌, refl, sym, ap, ◌∙◌}
-use Prim.Native.Nat.{ℕ, ◌+◌, ◌-◌, ◌*◌, ◌<◌, ◌≤◌, ◌/◌}
+use mathlib.Core.Path.{◌≡◌, refl, sym, ◌∙◌}
+use Prim.Native.Nat.{ℕ, ◌+◌, ◌*◌, ◌<◌, ◌/◌}
 use native.Mathlib.Omega.{arith}
 use lib.ListN.{length, length-set, replicate, length-replicate, get_or-replicate}
-use Rattle.groups.specs.Firsts.{First, FirstsIn, NodesOf, name_in, HasLow, HasName}
+use Rattle.groups.specs.Firsts.{First, name_in, HasLow, HasName}
 use Rattle.groups.proofs.Filling.{fill_more, firsts-none, low-entered, name-entered, entered-long}
-use borrow.Author.Rules.{rules}
 use Rattle.groups.proofs.names.number_names.Goals as goal
 
 pub loop-p-init : goal.loop-p-init

@@ -1,10 +1,7 @@
-use mathlib.Core.Path.{◌≡◌, refl, sym, ap, ◌∙◌}
-use Prim.Native.Nat.{ℕ, ◌+◌, ◌-◌, ◌*◌, ◌<◌, ◌≤◌, ◌/◌}
-use native.Mathlib.Omega.{arith}
-use lib.ListN.{length, length-set, replicate, length-replicate, get_or-replicate}
-use Rattle.groups.specs.Firsts.{First, FirstsIn, NodesOf, name_in, HasLow, HasName}
-use Rattle.groups.proofs.Filling.{fill_more, firsts-none, low-entered, name-entered, entered-long}
-use borrow.Author.Rules.{rules}
+use mathlib.Core.Path.{◌≡◌}
+use Prim.Native.Nat.{◌-◌, ◌≤◌}
+use lib.ListN.{length}
+use Rattle.groups.specs.Firsts.{FirstsIn, NodesOf, name_in, HasLow, HasName}
 use Rattle.groups.proofs.names.number_names.Given as goal
 
 abbrev pub invariant-loop-p : goal.invariant-loop-p

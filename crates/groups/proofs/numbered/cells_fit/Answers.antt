@@ -1,13 +1,8 @@
 -- Before row i is looked at, the cells from i on are right exactly if all are.
-use mathlib.Core.Path.{◌≡◌, sym, ◌∙◌}
-use Prim.Native.Nat.{◌-◌, ◌≤◌}
+use mathlib.Core.Path.{sym, ◌∙◌}
 use native.Mathlib.Omega.{arith}
-use Rattle.definition.specs.Numbers.{groups_cell}
-use Rattle.definition.specs.Lists.{rows, same_list}
 use Rattle.definition.specs.Tables.{number_at}
-use Rattle.groups.specs.Numbered.{root_numbers}
 use Rattle.groups.proofs.Numbering.{same_start, same-hit, same-on, same_end}
-use borrow.Author.Rules.{rules}
 use Rattle.groups.proofs.numbered.cells_fit.Goals as goal
 
 pub loop-i-init : goal.loop-i-init

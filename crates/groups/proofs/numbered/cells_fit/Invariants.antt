@@ -1,12 +1,9 @@
-use mathlib.Core.Path.{◌≡◌, sym, ◌∙◌}
+use mathlib.Core.Path.{◌≡◌}
 use Prim.Native.Nat.{◌-◌, ◌≤◌}
-use native.Mathlib.Omega.{arith}
 use Rattle.definition.specs.Numbers.{groups_cell}
 use Rattle.definition.specs.Lists.{rows, same_list}
 use Rattle.definition.specs.Tables.{number_at}
 use Rattle.groups.specs.Numbered.{root_numbers}
-use Rattle.groups.proofs.Numbering.{same_start, same-hit, same-on, same_end}
-use borrow.Author.Rules.{rules}
 use Rattle.groups.proofs.numbered.cells_fit.Given as goal
 
 abbrev pub invariant-loop-i : goal.invariant-loop-i

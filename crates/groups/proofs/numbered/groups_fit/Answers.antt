@@ -1,11 +1,9 @@
 -- Too many ties, ties that don't fit, and cells compared with the numbers of the roots.
-use mathlib.Core.Path.{◌≡◌, ap, ◌∙◌}
+use mathlib.Core.Path.{ap, ◌∙◌}
 use Prim.Native.Nat.{ℕ}
 use lib.ListN.{length-replicate}
-use borrow.Author.Tests.{not-false, not-true}
 use Rattle.groups.specs.Numbered.{groups_fit}
 use Rattle.groups.proofs.Numbering.{many-fit, none-fit, cells_right}
-use borrow.Author.Rules.{rules}
 use Rattle.groups.proofs.numbered.groups_fit.Goals as goal
 
 pub returns-then-n-gt-TIE_LIMIT : goal.returns-then-n-gt-TIE_LIMIT

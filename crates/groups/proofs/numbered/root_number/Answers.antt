@@ -1,6 +1,5 @@
 -- The number that stands beside the root's row.
 use Rattle.definition.specs.Tables.{number_at}
-use borrow.Author.Rules.{rules}
 use Rattle.groups.proofs.numbered.root_number.Goals as goal
 
 pub returns : goal.returns

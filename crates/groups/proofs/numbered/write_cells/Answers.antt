@@ -1,10 +1,9 @@
 -- The cells from i on are written.
 use mathlib.Core.Path.{◌≡◌, refl, ap, ◌∙◌}
-use Prim.Native.Nat.{ℕ, ◌+◌, ◌-◌, ◌<◌, ◌≤◌}
+use Prim.Native.Nat.{ℕ, ◌+◌, ◌-◌, ◌<◌}
 use native.Mathlib.Omega.{arith}
 use lib.ListN.{length, length-set}
 use Rattle.groups.proofs.Numbering.{wrote, write-start, write-more, write-end}
-use borrow.Author.Rules.{rules}
 use Rattle.groups.proofs.numbered.write_cells.Goals as goal
 
 pub loop-i-init : goal.loop-i-init

@@ -1,9 +1,7 @@
-use mathlib.Core.Path.{◌≡◌, refl, ap, ◌∙◌}
-use Prim.Native.Nat.{ℕ, ◌+◌, ◌-◌, ◌<◌, ◌≤◌}
-use native.Mathlib.Omega.{arith}
-use lib.ListN.{length, length-set}
-use Rattle.groups.proofs.Numbering.{wrote, write-start, write-more, write-end}
-use borrow.Author.Rules.{rules}
+use mathlib.Core.Path.{◌≡◌}
+use Prim.Native.Nat.{◌≤◌}
+use lib.ListN.{length}
+use Rattle.groups.proofs.Numbering.{wrote}
 use Rattle.groups.proofs.numbered.write_cells.Given as goal
 
 abbrev pub invariant-loop-i : goal.invariant-loop-i

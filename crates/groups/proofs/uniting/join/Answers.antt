@@ -1,10 +1,9 @@
 -- The higher of the two roots is led to the lower.
-use mathlib.Core.Path.{◌≡◌, refl, sym, ap, ◌∙◌}
+use mathlib.Core.Path.{refl}
 use mathlib.Core.Logic.{inl, inr}
 use native.Mathlib.Omega.{arith}
 use Rattle.groups.specs.Roots.{top}
 use Rattle.groups.proofs.Rooting.{root-low}
-use borrow.Author.Rules.{rules}
 use Rattle.groups.proofs.uniting.join.Goals as goal
 
 pub offset_bounds-ups-two : goal.offset_bounds-ups-two

@@ -1,11 +1,9 @@
 -- The first p places have their roots.
-use Prim.Native.Nat.{ℕ, ◌-◌, ◌<◌, ◌≤◌}
 use mathlib.Core.Path.{◌≡◌, refl, ◌∙◌}
 use native.Mathlib.Omega.{arith}
-use lib.ListN.{length, get_or, length-set}
+use lib.ListN.{length-set}
 use Rattle.groups.specs.Roots.{Root}
 use Rattle.groups.proofs.Filling.{fill_more}
-use borrow.Author.Rules.{rules}
 use Rattle.groups.proofs.uniting.list_roots.Goals as goal
 
 pub loop-p-init : goal.loop-p-init

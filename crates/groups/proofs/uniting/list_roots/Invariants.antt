@@ -1,10 +1,7 @@
 use Prim.Native.Nat.{ℕ, ◌-◌, ◌<◌, ◌≤◌}
-use mathlib.Core.Path.{◌≡◌, refl, ◌∙◌}
-use native.Mathlib.Omega.{arith}
-use lib.ListN.{length, get_or, length-set}
+use mathlib.Core.Path.{◌≡◌}
+use lib.ListN.{length, get_or}
 use Rattle.groups.specs.Roots.{Root}
-use Rattle.groups.proofs.Filling.{fill_more}
-use borrow.Author.Rules.{rules}
 use Rattle.groups.proofs.uniting.list_roots.Given as goal
 
 abbrev pub invariant-loop-p : goal.invariant-loop-p

@@ -1,11 +1,6 @@
 -- The root of where the way has come to is that of the place.
-use Prim.Native.Nat.{ℕ, ◌≤◌}
-use mathlib.Core.Path.{◌≡◌}
 use native.Mathlib.Omega.{arith}
-use lib.ListN.{get_or}
-use Rattle.groups.specs.Roots.{Root}
 use Rattle.groups.proofs.Rooting.{root-here, root-next}
-use borrow.Author.Rules.{rules}
 use Rattle.groups.proofs.uniting.root.Goals as goal
 
 pub loop-up-init : goal.loop-up-init

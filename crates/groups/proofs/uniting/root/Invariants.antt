@@ -1,10 +1,7 @@
 use Prim.Native.Nat.{ℕ, ◌≤◌}
 use mathlib.Core.Path.{◌≡◌}
-use native.Mathlib.Omega.{arith}
 use lib.ListN.{get_or}
 use Rattle.groups.specs.Roots.{Root}
-use Rattle.groups.proofs.Rooting.{root-here, root-next}
-use borrow.Author.Rules.{rules}
 use Rattle.groups.proofs.uniting.root.Given as goal
 
 abbrev pub invariant-loop-up : goal.invariant-loop-up

@@ -1,6 +1,5 @@
 -- A place that leads to a lower one has the root of that.
 use Rattle.groups.proofs.Rooting.{root-here, root-next}
-use borrow.Author.Rules.{rules}
 use Rattle.groups.proofs.uniting.root_of.Goals as goal
 
 pub returns-then-up-p : goal.returns-then-up-p

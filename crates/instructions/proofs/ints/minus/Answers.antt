@@ -1,5 +1,4 @@
 -- 2 to the 32 less the number, within 32 bits.
-use Rattle.std.proofs.Common.{rules}
 use Rattle.instructions.proofs.ints.minus.Goals as goal
 
 pub returns : goal.returns

@@ -1,5 +1,5 @@
 -- The product of the bits doesn't pass 64 bits; its lowest 32 are those of the ints' product.
-use Rattle.std.proofs.Common.{ℕ, ◌*◌, ◌<◌, sym, mul-le-mul, arith, rules}
+use Rattle.std.proofs.Common.{ℕ, ◌*◌, ◌<◌, sym, mul-le-mul, arith}
 use Rattle.laws.specs.Ints.{product-bits}
 use Rattle.instructions.proofs.ints.product.Goals as goal
 

@@ -1,5 +1,5 @@
 -- Each way divides magnitudes, by the two signs; the divisor's isn't 0.
-use Rattle.std.proofs.Common.{◌≡◌, ℕ, ◌-◌, ◌%◌, ◌<◌, ◌≤◌, sym, arith, rules}
+use Rattle.std.proofs.Common.{◌≡◌, ℕ, ◌-◌, ◌%◌, ◌<◌, ◌≤◌, sym, arith}
 use Rattle.laws.specs.Ints.{quotient-low-low, quotient-low-high, quotient-high-low, quotient-high-high}
 use Rattle.instructions.specs.Operands.{positive}
 use Rattle.instructions.proofs.ints.quotient.Goals as goal

@@ -1,6 +1,5 @@
 -- A row that is there has its third cell.
 use mathlib.Core.Path.{◌∙◌, ap, sym}
-use borrow.Author.Rules.{rules}
 use Rattle.resolution.specs.Cached.{class-here, class-nowhere}
 use Rattle.resolution.specs.Quick.{found}
 use Rattle.resolution.specs.declared.Found.TheVariants.{At}

@@ -1,5 +1,4 @@
 -- The third cell of the row.
-use borrow.Author.Rules.{rules}
 use Rattle.definition.specs.Tables.{entry_at}
 use Rattle.resolution.proofs.cache.entry_class.Goals as goal
 

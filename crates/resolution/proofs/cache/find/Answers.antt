@@ -1,6 +1,5 @@
 -- The class of the row in which the request stands first.
 use mathlib.Core.Path.{ap}
-use borrow.Author.Rules.{rules}
 use Rattle.resolution.specs.Cached.{find-by-row}
 use Rattle.resolution.specs.Quick.{found}
 use Rattle.resolution.proofs.cache.find.Goals as goal

@@ -1,6 +1,5 @@
 -- The row's loader and name are compared, one after the other.
 use mathlib.Core.Path.{◌∙◌, sym}
-use borrow.Author.Rules.{rules}
 use borrow.Author.Tests.{ne_eqb}
 use Rattle.definition.specs.Tables.{entry_at}
 use Rattle.resolution.proofs.Laws.{other-loader, same-loader}

@@ -1,13 +1,7 @@
 -- Before row i is compared, the request's row is i rows past the first of those from i on that has it.
-use mathlib.Core.Path.{◌∙◌, ◌≡◌, sym}
-use Prim.Native.Nat.{◌+◌, ◌-◌, ◌≤◌}
+use mathlib.Core.Path.{◌∙◌, sym}
 use native.Mathlib.Omega.{arith}
-use lib.ListN.{get_or}
-use borrow.Author.Rules.{rules}
-use Rattle.definition.specs.Lists.{rows}
-use Rattle.definition.specs.Requests.{at}
-use Rattle.definition.specs.Tables.{entry_at}
-use Rattle.resolution.specs.Cached.{row_of, row_here, row-later, row-nowhere, row-start}
+use Rattle.resolution.specs.Cached.{row_here, row-later, row-nowhere, row-start}
 use Rattle.resolution.proofs.cache.row_of.Goals as goal
 
 pub loop-i-init : goal.loop-i-init

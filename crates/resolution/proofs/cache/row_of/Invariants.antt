@@ -1,12 +1,10 @@
-use mathlib.Core.Path.{◌∙◌, ◌≡◌, sym}
+use mathlib.Core.Path.{◌≡◌}
 use Prim.Native.Nat.{◌+◌, ◌-◌, ◌≤◌}
-use native.Mathlib.Omega.{arith}
 use lib.ListN.{get_or}
-use borrow.Author.Rules.{rules}
 use Rattle.definition.specs.Lists.{rows}
 use Rattle.definition.specs.Requests.{at}
 use Rattle.definition.specs.Tables.{entry_at}
-use Rattle.resolution.specs.Cached.{row_of, row_here, row-later, row-nowhere, row-start}
+use Rattle.resolution.specs.Cached.{row_of}
 use Rattle.resolution.proofs.cache.row_of.Given as goal
 
 abbrev pub invariant-loop-i : goal.invariant-loop-i

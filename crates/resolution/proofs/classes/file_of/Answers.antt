@@ -1,6 +1,5 @@
 -- The part of the kept bytes that the class's row names, if there is such a class.
 use mathlib.Core.Path.{◌∙◌, sym}
-use borrow.Author.Rules.{rules}
 use borrow.Author.Tests.{ltb-false, ltb-true}
 use Rattle.definition.specs.Tables.{class_row_at}
 use Rattle.resolution.specs.Quick.{file-past, file-there}

@@ -1,11 +1,7 @@
 -- The cells are written from the last class to the first. What is left to write over what was written gives the whole.
-use mathlib.Core.Path.{◌∙◌, ◌≡◌, ap, refl, sym}
-use lib.ListN.{length, length-set, set}
-use borrow.Author.Rules.{rules}
-use Rattle.definition.specs.Lists.{rows, write_rows}
+use mathlib.Core.Path.{◌∙◌, ap, refl, sym}
+use lib.ListN.{length, length-set}
 use Rattle.resolution.proofs.Laws.{write-end, write-next}
-use Rattle.resolution.specs.Lookups.{super_cell}
-use Rattle.resolution.specs.Quick.{quick_base}
 use Rattle.resolution.proofs.classes.fill_supers.Goals as goal
 
 pub loop-i-init : goal.loop-i-init

@@ -1,8 +1,6 @@
-use mathlib.Core.Path.{◌∙◌, ◌≡◌, ap, refl, sym}
-use lib.ListN.{length, length-set, set}
-use borrow.Author.Rules.{rules}
+use mathlib.Core.Path.{◌≡◌}
+use lib.ListN.{length, set}
 use Rattle.definition.specs.Lists.{rows, write_rows}
-use Rattle.resolution.proofs.Laws.{write-end, write-next}
 use Rattle.resolution.specs.Lookups.{super_cell}
 use Rattle.resolution.specs.Quick.{quick_base}
 use Rattle.resolution.proofs.classes.fill_supers.Given as goal

@@ -1,11 +1,8 @@
 -- A walk upward: before each class is compared, it is below d exactly if c is. Numbers fall, so the walk ends.
-use mathlib.Core.Path.{◌∙◌, ◌≡◌, refl, sym}
-use borrow.Author.Rules.{rules}
-use Rattle.definition.specs.Classes.{super_of}
-use Rattle.definition.specs.Superclasses.{below}
+use mathlib.Core.Path.{◌∙◌, refl, sym}
 use Rattle.laws.specs.Agreement.{super-falls}
 use Rattle.resolution.proofs.Laws.{below_none, below-same, below_up}
-use Rattle.resolution.specs.Quick.{found-absent, found_at, quick_base}
+use Rattle.resolution.specs.Quick.{found-absent, found_at}
 use Rattle.resolution.proofs.classes.is_below.Goals as goal
 
 pub loop-at-init : goal.loop-at-init

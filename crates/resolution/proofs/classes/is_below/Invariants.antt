@@ -1,10 +1,7 @@
-use mathlib.Core.Path.{◌∙◌, ◌≡◌, refl, sym}
-use borrow.Author.Rules.{rules}
+use mathlib.Core.Path.{◌≡◌}
 use Rattle.definition.specs.Classes.{super_of}
 use Rattle.definition.specs.Superclasses.{below}
-use Rattle.laws.specs.Agreement.{super-falls}
-use Rattle.resolution.proofs.Laws.{below_none, below-same, below_up}
-use Rattle.resolution.specs.Quick.{found-absent, found_at, quick_base}
+use Rattle.resolution.specs.Quick.{quick_base}
 use Rattle.resolution.proofs.classes.is_below.Given as goal
 
 abbrev pub invariant-loop-at : goal.invariant-loop-at

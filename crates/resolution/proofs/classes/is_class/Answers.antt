@@ -1,5 +1,4 @@
 -- The number is compared with the count of classes.
-use borrow.Author.Rules.{rules}
 use Rattle.resolution.proofs.classes.is_class.Goals as goal
 
 pub returns : goal.returns

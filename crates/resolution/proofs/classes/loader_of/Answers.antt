@@ -3,7 +3,6 @@ use mathlib.Core.Path.{◌∙◌, ap, sym}
 use Prim.Native.Nat.{ℕ}
 use native.Mathlib.Omega.{arith}
 use lib.ListN.{get_or}
-use borrow.Author.Rules.{rules}
 use Rattle.definition.specs.Tables.{class_row_at}
 use Rattle.resolution.specs.Quick.{loader_in}
 use Rattle.resolution.proofs.classes.loader_of.Goals as goal

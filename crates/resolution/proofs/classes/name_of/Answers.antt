@@ -1,7 +1,6 @@
 -- No name where there is no class, 2 for a class without a file, else the name in the file.
 use mathlib.Core.Path.{◌∙◌, sym}
-use borrow.Author.Rules.{rules}
-use borrow.Author.Tests.{ltb-false, ltb-true, not-false, not-true}
+use borrow.Author.Tests.{ltb-false, ltb-true}
 use Rattle.definition.specs.Tables.{class_row_at}
 use Rattle.resolution.specs.Lookups.{name-file, name-object, name-past}
 use Rattle.resolution.proofs.classes.name_of.Goals as goal

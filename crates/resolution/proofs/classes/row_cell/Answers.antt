@@ -1,5 +1,4 @@
 -- The cell of the class's row.
-use borrow.Author.Rules.{rules}
 use Rattle.resolution.proofs.classes.row_cell.Goals as goal
 
 pub returns : goal.returns

@@ -1,6 +1,5 @@
 -- The row's class; a number that is not lower counts as none.
 use mathlib.Core.Path.{◌∙◌, ap, sym}
-use borrow.Author.Rules.{rules}
 use Rattle.resolution.specs.Cached.{super-higher, super-lower, super-none}
 use Rattle.resolution.specs.Quick.{found, found-absent, found_at}
 use Rattle.resolution.proofs.classes.super_by.Goals as goal

@@ -2,8 +2,7 @@
 use mathlib.Core.Path.{◌∙◌, ap, sym}
 use Prim.Native.Nat.{◌<◌}
 use native.Mathlib.Omega.{arith}
-use borrow.Author.Rules.{rules}
-use borrow.Author.Tests.{ltb-false, not-true}
+use borrow.Author.Tests.{ltb-false}
 use Rattle.definition.specs.Classes.{super_of}
 use Rattle.laws.specs.Agreement.{super-falls}
 use Rattle.resolution.specs.Lookups.{cell-none, cell-some}

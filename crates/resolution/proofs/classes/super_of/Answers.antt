@@ -1,6 +1,5 @@
 -- The superclass is found by the row of its entry.
 use mathlib.Core.Path.{ap}
-use borrow.Author.Rules.{rules}
 use Rattle.resolution.specs.Cached.{super-by-row}
 use Rattle.resolution.specs.Quick.{found, quick_base}
 use Rattle.resolution.proofs.classes.super_of.Goals as goal

@@ -3,8 +3,7 @@ use mathlib.Core.Path.{◌∙◌, ap, sym}
 use Prim.Native.Nat.{ℕ}
 use native.Mathlib.Omega.{arith}
 use lib.ListN.{get_or}
-use borrow.Author.Rules.{rules}
-use borrow.Author.Tests.{ltb-false, ltb-true, not-false, not-true}
+use borrow.Author.Tests.{ltb-false, ltb-true}
 use Rattle.definition.specs.Tables.{class_row_at}
 use Rattle.classfile.specs.Reading.{super_name}
 use Rattle.resolution.specs.Quick.{row-past, row-there}

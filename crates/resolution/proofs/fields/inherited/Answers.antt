@@ -1,7 +1,6 @@
 -- The fields of the superclass, if there is one.
 use mathlib.Core.Path.{◌∙◌, sym}
 use native.Mathlib.Omega.{arith}
-use borrow.Author.Rules.{rules}
 use Rattle.resolution.specs.Quick.{found-absent, found_at}
 use Rattle.resolution.specs.Slots.{inherited-none, inherited-some}
 use Rattle.resolution.proofs.fields.inherited.Goals as goal

@@ -1,11 +1,8 @@
 -- A walk upward: the nearest class from the present one on is the nearest from c on. Numbers fall, so the walk ends.
-use mathlib.Core.Path.{◌∙◌, ◌≡◌, ap, refl, sym}
-use borrow.Author.Rules.{rules}
-use Rattle.definition.specs.Classes.{has_field, super_of}
-use Rattle.definition.specs.Superclasses.{nearest}
+use mathlib.Core.Path.{◌∙◌, ap, refl, sym}
 use Rattle.laws.specs.Agreement.{super-falls}
 use Rattle.laws.specs.Upward.{nearest-here, nearest-none, nearest-up}
-use Rattle.resolution.specs.Quick.{found, found-absent, found_at, has-field-quick, quick_base}
+use Rattle.resolution.specs.Quick.{found, found-absent, found_at, has-field-quick}
 use Rattle.resolution.proofs.fields.nearest_field.Goals as goal
 
 pub loop-c-init : goal.loop-c-init

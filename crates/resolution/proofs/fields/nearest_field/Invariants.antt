@@ -1,10 +1,7 @@
-use mathlib.Core.Path.{◌∙◌, ◌≡◌, ap, refl, sym}
-use borrow.Author.Rules.{rules}
+use mathlib.Core.Path.{◌≡◌}
 use Rattle.definition.specs.Classes.{has_field, super_of}
 use Rattle.definition.specs.Superclasses.{nearest}
-use Rattle.laws.specs.Agreement.{super-falls}
-use Rattle.laws.specs.Upward.{nearest-here, nearest-none, nearest-up}
-use Rattle.resolution.specs.Quick.{found, found-absent, found_at, has-field-quick, quick_base}
+use Rattle.resolution.specs.Quick.{quick_base}
 use Rattle.resolution.proofs.fields.nearest_field.Given as goal
 
 abbrev pub invariant-loop-c : goal.invariant-loop-c

@@ -1,7 +1,6 @@
 -- The field count of the class's file.
 use mathlib.Core.Path.{◌∙◌, ap}
 use native.Mathlib.Omega.{arith}
-use borrow.Author.Rules.{rules}
 use Rattle.classfile.specs.Reading.{field_count}
 use Rattle.resolution.proofs.fields.own_size.Goals as goal
 

@@ -1,15 +1,13 @@
 -- A walk upward: the fields counted so far and those of the present class are those of c. A class declares at most 255, and there are at most 65,535 classes.
-use mathlib.Core.Path.{◌∙◌, ◌≡◌, ap, sym}
-use Prim.Native.Nat.{◌*◌, ◌+◌, ◌-◌, ◌<◌, ◌≤◌}
+use mathlib.Core.Path.{◌∙◌, ap, sym}
+use Prim.Native.Nat.{◌<◌}
 use native.Mathlib.Nat.{zero-add}
 use native.Mathlib.Omega.{arith}
 use lib.ListN.{get_or, length}
-use borrow.Author.Rules.{rules}
-use borrow.Author.Tests.{ltb-false, ltb-true, not-false, not-true}
-use Rattle.definition.specs.Classes.{slots}
+use borrow.Author.Tests.{ltb-false, ltb-true}
 use Rattle.laws.specs.Agreement.{super-falls}
 use Rattle.resolution.proofs.Laws.{count-last, count-up}
-use Rattle.resolution.specs.Quick.{found-absent, found_at, quick_base}
+use Rattle.resolution.specs.Quick.{found-absent, found_at}
 use Rattle.resolution.specs.Slots.{slots-past}
 use Rattle.resolution.proofs.fields.size_of.Goals as goal
 

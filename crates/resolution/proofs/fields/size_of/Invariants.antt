@@ -1,15 +1,8 @@
-use mathlib.Core.Path.{◌∙◌, ◌≡◌, ap, sym}
+use mathlib.Core.Path.{◌≡◌}
 use Prim.Native.Nat.{◌*◌, ◌+◌, ◌-◌, ◌<◌, ◌≤◌}
-use native.Mathlib.Nat.{zero-add}
-use native.Mathlib.Omega.{arith}
-use lib.ListN.{get_or, length}
-use borrow.Author.Rules.{rules}
-use borrow.Author.Tests.{ltb-false, ltb-true, not-false, not-true}
+use lib.ListN.{length}
 use Rattle.definition.specs.Classes.{slots}
-use Rattle.laws.specs.Agreement.{super-falls}
-use Rattle.resolution.proofs.Laws.{count-last, count-up}
-use Rattle.resolution.specs.Quick.{found-absent, found_at, quick_base}
-use Rattle.resolution.specs.Slots.{slots-past}
+use Rattle.resolution.specs.Quick.{quick_base}
 use Rattle.resolution.proofs.fields.size_of.Given as goal
 
 abbrev pub invariant-loop-p : goal.invariant-loop-p

@@ -2,7 +2,6 @@
 use mathlib.Core.List.{List}
 use mathlib.Core.Path.{◌∙◌, ap, sym}
 use Prim.Native.Nat.{◌+◌, ℕ}
-use borrow.Author.Rules.{rules}
 use Rattle.definition.specs.Lists.{index_of}
 use Rattle.classfile.specs.Lists.{shift}
 use Rattle.classfile.specs.Reading.{field_found, field_is, quick_fields}

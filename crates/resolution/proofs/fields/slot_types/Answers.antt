@@ -1,14 +1,8 @@
 -- A walk upward: the types of the present class's fields, over what was written, give those of c. Numbers fall, so the walk ends.
-use mathlib.Core.List.{map}
-use mathlib.Core.Path.{◌∙◌, ◌≡◌, refl, sym}
-use lib.ListN.{length, set}
-use borrow.Author.Rules.{rules}
-use Rattle.definition.specs.Classes.{slots}
-use Rattle.definition.specs.Lists.{write_rows}
+use mathlib.Core.Path.{◌∙◌, refl, sym}
 use Rattle.laws.specs.Agreement.{super-falls}
 use Rattle.resolution.proofs.Laws.{rest-last, rest_up, rest-within, types-none, types_up}
-use Rattle.resolution.specs.Quick.{found-absent, found_at, quick_base}
-use Rattle.resolution.specs.Slots.{slot_type}
+use Rattle.resolution.specs.Quick.{found-absent, found_at}
 use Rattle.resolution.proofs.fields.slot_types.Goals as goal
 
 pub loop-p-init : goal.loop-p-init

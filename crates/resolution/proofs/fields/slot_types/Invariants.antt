@@ -1,12 +1,9 @@
 use mathlib.Core.List.{map}
-use mathlib.Core.Path.{◌∙◌, ◌≡◌, refl, sym}
+use mathlib.Core.Path.{◌≡◌}
 use lib.ListN.{length, set}
-use borrow.Author.Rules.{rules}
 use Rattle.definition.specs.Classes.{slots}
 use Rattle.definition.specs.Lists.{write_rows}
-use Rattle.laws.specs.Agreement.{super-falls}
-use Rattle.resolution.proofs.Laws.{rest-last, rest_up, rest-within, types-none, types_up}
-use Rattle.resolution.specs.Quick.{found-absent, found_at, quick_base}
+use Rattle.resolution.specs.Quick.{quick_base}
 use Rattle.resolution.specs.Slots.{slot_type}
 use Rattle.resolution.proofs.fields.slot_types.Given as goal
 

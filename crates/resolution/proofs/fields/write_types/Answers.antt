@@ -1,9 +1,6 @@
 -- The types are written from the last field to the first. What is left to write over what was written gives the whole.
-use mathlib.Core.List.{map}
-use mathlib.Core.Path.{◌∙◌, ◌≡◌, ap, refl, sym}
-use lib.ListN.{length, length-set, set}
-use borrow.Author.Rules.{rules}
-use Rattle.definition.specs.Lists.{rows, write_rows}
+use mathlib.Core.Path.{◌∙◌, ap, refl, sym}
+use lib.ListN.{length, length-set}
 use Rattle.layout.specs.Places.{rows-map}
 use Rattle.classfile.specs.Reading.{field_count, field_in, quick_fields}
 use Rattle.resolution.proofs.Laws.{write-end, write-last}

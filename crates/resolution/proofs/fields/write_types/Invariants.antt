@@ -1,11 +1,8 @@
 use mathlib.Core.List.{map}
-use mathlib.Core.Path.{◌∙◌, ◌≡◌, ap, refl, sym}
-use lib.ListN.{length, length-set, set}
-use borrow.Author.Rules.{rules}
+use mathlib.Core.Path.{◌≡◌}
+use lib.ListN.{length, set}
 use Rattle.definition.specs.Lists.{rows, write_rows}
-use Rattle.layout.specs.Places.{rows-map}
-use Rattle.classfile.specs.Reading.{field_count, field_in, quick_fields}
-use Rattle.resolution.proofs.Laws.{write-end, write-last}
+use Rattle.classfile.specs.Reading.{field_in, quick_fields}
 use Rattle.resolution.specs.Slots.{field_type}
 use Rattle.resolution.proofs.fields.write_types.Given as goal
 

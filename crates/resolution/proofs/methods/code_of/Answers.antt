@@ -2,7 +2,6 @@
 use mathlib.Core.Path.{◌∙◌, sym}
 use Prim.Native.Nat.{◌≤◌}
 use native.Mathlib.Omega.{arith}
-use borrow.Author.Rules.{rules}
 use Rattle.classfile.specs.Reading.{field_count, field_place, method_at, method_count}
 use Rattle.classfile.specs.Searches.{method-numbered, method-past, method-unnumbered}
 use Rattle.resolution.specs.Lookups.{code-none, code-some}

@@ -1,11 +1,9 @@
 -- A walk upward: what is selected from the present class on is what is selected from c on. Numbers fall, so the walk ends.
-use mathlib.Core.Path.{◌∙◌, ◌≡◌, ap, refl, sym}
-use borrow.Author.Rules.{rules}
-use Rattle.definition.specs.Classes.{selected}
+use mathlib.Core.Path.{◌∙◌, ap, refl, sym}
 use Rattle.definition.specs.Lists.{index_of}
 use Rattle.laws.specs.Agreement.{super-falls}
 use Rattle.resolution.specs.Lookups.{selection, selected-here, selected-none, selected-up}
-use Rattle.resolution.specs.Quick.{found-absent, found_at, methods-quick, quick_base}
+use Rattle.resolution.specs.Quick.{found-absent, found_at, methods-quick}
 use Rattle.resolution.proofs.methods.select_method.Goals as goal
 
 pub loop-j-init : goal.loop-j-init

@@ -1,10 +1,6 @@
-use mathlib.Core.Path.{◌∙◌, ◌≡◌, ap, refl, sym}
-use borrow.Author.Rules.{rules}
+use mathlib.Core.Path.{◌≡◌}
 use Rattle.definition.specs.Classes.{selected}
-use Rattle.definition.specs.Lists.{index_of}
-use Rattle.laws.specs.Agreement.{super-falls}
-use Rattle.resolution.specs.Lookups.{selection, selected-here, selected-none, selected-up}
-use Rattle.resolution.specs.Quick.{found-absent, found_at, methods-quick, quick_base}
+use Rattle.resolution.specs.Quick.{quick_base}
 use Rattle.resolution.proofs.methods.select_method.Given as goal
 
 abbrev pub invariant-loop-j : goal.invariant-loop-j

@@ -1,6 +1,5 @@
 -- Nothing is new where the constraint is there; else one row is written.
 use mathlib.Core.Path.{sym, ◌∙◌}
-use borrow.Author.Rules.{rules}
 use Rattle.rows.proofs.Posted.{subtype-there, subtype-new}
 use Rattle.rows.proofs.adding.add_subtype.Goals as goal
 

@@ -1,7 +1,6 @@
 -- Past 256 rows nothing is posted; else a row is added, unless it is there.
 use mathlib.Core.Path.{sym}
 use native.Mathlib.Omega.{arith}
-use borrow.Author.Rules.{rules}
 use Rattle.rows.specs.Posting.{note}
 use Rattle.rows.specs.Laws.{new-few, post-over, post-room}
 use Rattle.rows.proofs.adding.post_note.Goals as goal

@@ -1,6 +1,5 @@
 -- A row is the constraint if both names and the loader are.
 use mathlib.Core.Path.{sym, ◌∙◌}
-use borrow.Author.Rules.{rules}
 use Rattle.rows.proofs.Posted.{subtype-named, subtype-not}
 use Rattle.rows.proofs.adding.subtype_is.Goals as goal
 

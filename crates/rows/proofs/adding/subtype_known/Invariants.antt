@@ -1,12 +1,9 @@
 use Prim.Native.Nat.{◌≤◌}
-use mathlib.Core.Path.{◌≡◌, refl, sym, ◌∙◌}
-use native.Mathlib.Omega.{arith}
-use borrow.Author.Rules.{rules}
+use mathlib.Core.Path.{◌≡◌}
 use Rattle.definition.specs.Lists.{any, rows}
 use Rattle.definition.specs.Loading.{subtype_is}
 use Rattle.definition.specs.Tables.{subtype_at}
 use Rattle.rows.specs.Posting.{note}
-use Rattle.rows.proofs.Posted.{any-last-hit, any-last-on, any-nothing}
 use Rattle.rows.proofs.adding.subtype_known.Given as goal
 
 abbrev pub invariant-loop-i : goal.invariant-loop-i

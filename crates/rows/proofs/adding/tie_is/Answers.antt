@@ -1,6 +1,5 @@
 -- A row is a tie on another name, a tie of the loaders as given, or perhaps one of them turned round.
 use mathlib.Core.Path.{sym, ◌∙◌}
-use borrow.Author.Rules.{rules}
 use Rattle.rows.proofs.Posted.{tie-not, tie-straight, tie-turned}
 use Rattle.rows.proofs.adding.tie_is.Goals as goal
 

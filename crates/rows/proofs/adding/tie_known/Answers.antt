@@ -1,11 +1,6 @@
 -- None of the rows that were passed is the tie.
-use Prim.Native.Nat.{◌-◌, ◌≤◌}
-use mathlib.Core.Path.{◌≡◌, sym, ◌∙◌}
+use mathlib.Core.Path.{sym, ◌∙◌}
 use native.Mathlib.Omega.{arith}
-use borrow.Author.Rules.{rules}
-use Rattle.definition.specs.Constraints.{tie_is}
-use Rattle.definition.specs.Lists.{any, rows}
-use Rattle.definition.specs.Tables.{tie_at}
 use Rattle.layout.specs.Places.{any-hit, any-on, any-end}
 use Rattle.rows.proofs.Posted.{any-start}
 use Rattle.rows.proofs.adding.tie_known.Goals as goal

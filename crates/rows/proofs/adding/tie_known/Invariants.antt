@@ -1,12 +1,8 @@
 use Prim.Native.Nat.{◌-◌, ◌≤◌}
-use mathlib.Core.Path.{◌≡◌, sym, ◌∙◌}
-use native.Mathlib.Omega.{arith}
-use borrow.Author.Rules.{rules}
+use mathlib.Core.Path.{◌≡◌}
 use Rattle.definition.specs.Constraints.{tie_is}
 use Rattle.definition.specs.Lists.{any, rows}
 use Rattle.definition.specs.Tables.{tie_at}
-use Rattle.layout.specs.Places.{any-hit, any-on, any-end}
-use Rattle.rows.proofs.Posted.{any-start}
 use Rattle.rows.proofs.adding.tie_known.Given as goal
 
 abbrev pub invariant-loop-i : goal.invariant-loop-i

@@ -2,7 +2,6 @@
 use mathlib.Core.Path.{sym, ◌∙◌}
 use native.Mathlib.Omega.{arith}
 use lib.ListN.{get_or-eq_default}
-use borrow.Author.Rules.{rules}
 use Rattle.definition.specs.Tables.{number_at}
 use Rattle.rows.proofs.Turns.{standing-there, standing-past}
 use Rattle.rows.proofs.numbers.number_at.Goals as goal

@@ -1,15 +1,11 @@
 -- Before number k is looked for, k rows were met, t ties and s subtype constraints, and the numbers that stand next are at hand; the numbers from k
 -- on are in turn exactly if all are.
-use mathlib.Core.Path.{◌∙◌, ◌≡◌, refl, sym}
-use Prim.Native.Nat.{◌+◌, ◌-◌, ◌≤◌, ◌<◌}
+use mathlib.Core.Path.{◌∙◌, refl, sym}
+use Prim.Native.Nat.{◌+◌, ◌<◌}
 use native.Mathlib.Omega.{arith}
-use borrow.Author.Rules.{rules}
 use Rattle.definition.specs.Numbers.{tie_numbers_cell, subtype_numbers_cell}
-use Rattle.definition.specs.Broken.{in_turn}
-use Rattle.definition.specs.Lists.{rows}
 use Rattle.definition.specs.Tables.{number_at}
 use Rattle.rows.proofs.Turns.{next-is, next-isnt, next-there, turn-start, turn-tie, turn-subtype, turn-stop}
-use Rattle.rows.specs.Numbers.{no_number, standing, numbers_fit}
 use Rattle.rows.proofs.numbers.numbers_fit.Goals as goal
 
 pub loop-tie-init : goal.loop-tie-init

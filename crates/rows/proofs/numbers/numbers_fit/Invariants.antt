@@ -1,12 +1,9 @@
-use mathlib.Core.Path.{◌∙◌, ◌≡◌, refl, sym}
+use mathlib.Core.Path.{◌≡◌}
 use Prim.Native.Nat.{◌+◌, ◌-◌, ◌≤◌, ◌<◌}
-use native.Mathlib.Omega.{arith}
-use borrow.Author.Rules.{rules}
 use Rattle.definition.specs.Numbers.{tie_numbers_cell, subtype_numbers_cell}
 use Rattle.definition.specs.Broken.{in_turn}
 use Rattle.definition.specs.Lists.{rows}
 use Rattle.definition.specs.Tables.{number_at}
-use Rattle.rows.proofs.Turns.{next-is, next-isnt, next-there, turn-start, turn-tie, turn-subtype, turn-stop}
 use Rattle.rows.specs.Numbers.{no_number, standing, numbers_fit}
 use Rattle.rows.proofs.numbers.numbers_fit.Given as goal
 

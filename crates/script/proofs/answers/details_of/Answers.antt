@@ -1,6 +1,5 @@
 -- A call's answer by its kind.
 use Rattle.definition.specs.Answers.{details}
-use borrow.Author.Rules.{rules}
 use Rattle.script.proofs.answers.details_of.Goals as goal
 
 pub returns-in-Accepted : goal.returns-in-Accepted

@@ -1,6 +1,5 @@
 -- A refusal's number and what it wants.
 use Rattle.definition.specs.Answers.{refusal_details}
-use borrow.Author.Rules.{rules}
 use Rattle.script.proofs.answers.refusal_details.Goals as goal
 
 pub returns-in-Wanted : goal.returns-in-Wanted

@@ -1,6 +1,5 @@
 -- A step's answer by its kind.
 use Rattle.definition.specs.Answers.{step_details}
-use borrow.Author.Rules.{rules}
 use Rattle.script.proofs.answers.step_details.Goals as goal
 
 pub returns-in-Idle : goal.returns-in-Idle

@@ -1,7 +1,6 @@
 -- The bytes before the first space, as a number.
 use mathlib.Core.Path.{sym, ◌∙◌}
 use Rattle.script.specs.Parts.{head_of, head_in, head_read, space-inside}
-use borrow.Author.Rules.{rules}
 use native.Mathlib.Omega.{arith}
 use Rattle.script.proofs.fields.first_field.Goals as goal
 

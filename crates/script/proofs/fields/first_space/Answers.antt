@@ -1,9 +1,6 @@
 -- The bytes are searched from the first on: the first space from place i on is the first space of all.
-use mathlib.Core.Path.{◌≡◌, refl, sym, ◌∙◌}
-use Prim.Native.Nat.{◌-◌, ◌≤◌}
-use lib.ListN.{length, drop}
-use Rattle.script.specs.Parts.{space_from, space-here, space-later, space-end}
-use borrow.Author.Rules.{rules}
+use mathlib.Core.Path.{refl, sym, ◌∙◌}
+use Rattle.script.specs.Parts.{space-here, space-later, space-end}
 use native.Mathlib.Omega.{arith}
 use Rattle.script.proofs.fields.first_space.Goals as goal
 

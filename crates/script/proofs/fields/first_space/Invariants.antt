@@ -1,9 +1,7 @@
-use mathlib.Core.Path.{◌≡◌, refl, sym, ◌∙◌}
+use mathlib.Core.Path.{◌≡◌}
 use Prim.Native.Nat.{◌-◌, ◌≤◌}
 use lib.ListN.{length, drop}
-use Rattle.script.specs.Parts.{space_from, space-here, space-later, space-end}
-use borrow.Author.Rules.{rules}
-use native.Mathlib.Omega.{arith}
+use Rattle.script.specs.Parts.{space_from}
 use Rattle.script.proofs.fields.first_space.Given as goal
 
 abbrev pub invariant-loop-i : goal.invariant-loop-i

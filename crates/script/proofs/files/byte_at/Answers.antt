@@ -1,6 +1,5 @@
 -- Two digits, the higher first.
 use Rattle.script.specs.Files.{pair_value, pair_of}
-use borrow.Author.Rules.{rules}
 use Rattle.script.proofs.files.byte_at.Goals as goal
 
 pub returns : goal.returns

@@ -1,10 +1,7 @@
 -- Pair by pair: the bytes of the pairs before place i are written.
-use mathlib.Core.Path.{◌≡◌, refl, ◌∙◌}
-use Prim.Native.Nat.{◌-◌, ◌≤◌}
-use lib.ListN.{length, set, take}
+use mathlib.Core.Path.{refl, ◌∙◌}
 use Rattle.definition.specs.Lists.{write_rows}
-use Rattle.script.specs.Files.{quick_pairs, pair-written, pairs-written}
-use borrow.Author.Rules.{rules}
+use Rattle.script.specs.Files.{pair-written, pairs-written}
 use native.Mathlib.Omega.{arith}
 use Rattle.script.proofs.files.decode.Goals as goal
 

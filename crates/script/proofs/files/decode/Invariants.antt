@@ -1,10 +1,8 @@
-use mathlib.Core.Path.{◌≡◌, refl, ◌∙◌}
+use mathlib.Core.Path.{◌≡◌}
 use Prim.Native.Nat.{◌-◌, ◌≤◌}
 use lib.ListN.{length, set, take}
 use Rattle.definition.specs.Lists.{write_rows}
-use Rattle.script.specs.Files.{quick_pairs, pair-written, pairs-written}
-use borrow.Author.Rules.{rules}
-use native.Mathlib.Omega.{arith}
+use Rattle.script.specs.Files.{quick_pairs}
 use Rattle.script.proofs.files.decode.Given as goal
 
 abbrev pub invariant-loop-i : goal.invariant-loop-i

@@ -1,7 +1,6 @@
 -- A digit by its range.
 use mathlib.Core.Path.{sym}
 use Rattle.script.specs.Files.{value-digit, value-upper, value-lower, value-below, value-first, value-second, value-above}
-use borrow.Author.Rules.{rules}
 use Rattle.script.proofs.files.hex_value.Goals as goal
 
 pub returns-then-b-lt48 : goal.returns-then-b-lt48

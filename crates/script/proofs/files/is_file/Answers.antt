@@ -1,10 +1,7 @@
 -- Digits, an even number of them and not none. The digits from place i on are all digits exactly if all are.
-use mathlib.Core.Path.{◌≡◌, refl, sym, ◌∙◌}
-use Prim.Native.Nat.{◌-◌, ◌≤◌}
-use lib.ListN.{drop}
-use Rattle.definition.specs.Lists.{all, is_some}
-use Rattle.script.specs.Files.{is_hex, hexes-bad, hexes-later, hexes-end, file-empty, file-odd, file-bad, file-all}
-use borrow.Author.Rules.{rules}
+use mathlib.Core.Path.{refl, sym, ◌∙◌}
+use Rattle.definition.specs.Lists.{is_some}
+use Rattle.script.specs.Files.{hexes-bad, hexes-later, hexes-end, file-empty, file-odd, file-bad, file-all}
 use native.Mathlib.Omega.{arith}
 use Rattle.script.proofs.files.is_file.Goals as goal
 

@@ -1,10 +1,8 @@
-use mathlib.Core.Path.{◌≡◌, refl, sym, ◌∙◌}
+use mathlib.Core.Path.{◌≡◌}
 use Prim.Native.Nat.{◌-◌, ◌≤◌}
 use lib.ListN.{drop}
-use Rattle.definition.specs.Lists.{all, is_some}
-use Rattle.script.specs.Files.{is_hex, hexes-bad, hexes-later, hexes-end, file-empty, file-odd, file-bad, file-all}
-use borrow.Author.Rules.{rules}
-use native.Mathlib.Omega.{arith}
+use Rattle.definition.specs.Lists.{all}
+use Rattle.script.specs.Files.{is_hex}
 use Rattle.script.proofs.files.is_file.Given as goal
 
 abbrev pub invariant-loop-i : goal.invariant-loop-i

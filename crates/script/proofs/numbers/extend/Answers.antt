@@ -1,6 +1,5 @@
 -- A byte that is a digit, and a number that stays at most `most`.
 use Rattle.script.specs.Numbers.{number_is, extended-under, extended-above, extended-past, extended-is}
-use borrow.Author.Rules.{rules}
 use native.Mathlib.Omega.{arith}
 use Rattle.script.proofs.numbers.extend.Goals as goal
 

@@ -1,7 +1,6 @@
 -- An int by its first byte, a minus or not.
 use mathlib.Core.Path.{sym, ◌∙◌}
 use Rattle.script.specs.Numbers.{int-minus, int-plain}
-use borrow.Author.Rules.{rules}
 use Rattle.script.proofs.numbers.int_number.Goals as goal
 
 pub returns-then-at8-eq45 : goal.returns-then-at8-eq45

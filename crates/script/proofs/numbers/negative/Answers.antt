@@ -1,6 +1,5 @@
 -- 2 to the 32 less the number, within 32 bits.
 use Rattle.script.specs.Numbers.{negated}
-use borrow.Author.Rules.{rules}
 use Rattle.script.proofs.numbers.negative.Goals as goal
 
 pub returns-in_default : goal.returns-in_default

@@ -2,7 +2,6 @@
 use mathlib.Core.Path.{sym, ◌∙◌}
 use Rattle.script.specs.Parts.{short_is}
 use Rattle.script.specs.Numbers.{number-none, number-some, up_to-low}
-use borrow.Author.Rules.{rules}
 use native.Mathlib.Omega.{arith}
 use Rattle.script.proofs.numbers.short_number.Goals as goal
 

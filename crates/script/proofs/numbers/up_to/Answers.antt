@@ -1,11 +1,7 @@
 -- Digit by digit: the number so far is at most `most`, and with the digits that are left it is the whole number.
-use mathlib.Core.Path.{◌≡◌, sym, ◌∙◌}
-use Prim.Native.Nat.{◌-◌, ◌≤◌}
-use lib.ListN.{length, drop}
-use Rattle.definition.specs.Script.{up_to}
+use mathlib.Core.Path.{sym, ◌∙◌}
 use Rattle.script.specs.Parts.{next-byte}
-use Rattle.script.specs.Numbers.{number_is, bounded, number-some, number-none, up_to-empty, bounded-start, bounded-more, bounded-low, bounded-over, bounded-end}
-use borrow.Author.Rules.{rules}
+use Rattle.script.specs.Numbers.{number_is, number-some, number-none, up_to-empty, bounded-start, bounded-more, bounded-low, bounded-over, bounded-end}
 use native.Mathlib.Omega.{arith}
 use Rattle.script.proofs.numbers.up_to.Goals as goal
 

@@ -1,11 +1,8 @@
-use mathlib.Core.Path.{◌≡◌, sym, ◌∙◌}
+use mathlib.Core.Path.{◌≡◌}
 use Prim.Native.Nat.{◌-◌, ◌≤◌}
 use lib.ListN.{length, drop}
 use Rattle.definition.specs.Script.{up_to}
-use Rattle.script.specs.Parts.{next-byte}
-use Rattle.script.specs.Numbers.{number_is, bounded, number-some, number-none, up_to-empty, bounded-start, bounded-more, bounded-low, bounded-over, bounded-end}
-use borrow.Author.Rules.{rules}
-use native.Mathlib.Omega.{arith}
+use Rattle.script.specs.Numbers.{bounded}
 use Rattle.script.proofs.numbers.up_to.Given as goal
 
 abbrev pub invariant-loop-i : goal.invariant-loop-i

@@ -2,7 +2,6 @@
 use mathlib.Core.Path.{◌∙◌}
 use Prim.Native.Nat.{◌+◌, ◌≤◌}
 use Rattle.script.specs.Printing.{number-end, int-end, line_wrote}
-use borrow.Author.Rules.{rules}
 use native.Mathlib.Omega.{arith}
 use Rattle.script.proofs.printing.print_line.Goals as goal
 
@@ -10,19 +9,37 @@ pub put_number-b-requires : goal.put_number-b-requires
 put_number-b-requires c = omega (arith, (let it : c.put_number-a.result ≤ 12 = number-end _ _ _ _ _ c.put_number-a.ensures in it))
 
 pub put_number-c-requires : goal.put_number-c-requires
-put_number-c-requires c = omega (arith, (let it : c.put_number-b.result ≤ 23 = let end : c.put_number-b.result ≤ c.put_number-a.result + 11 = number-end _ _ _ _ _ c.put_number-b.ensures in
-    omega (arith, (let it : c.put_number-a.result ≤ 12 = number-end _ _ _ _ _ c.put_number-a.ensures in it)) in it))
+put_number-c-requires c = omega (
+  arith,
+  (let it : c.put_number-b.result ≤ 23 = let end : c.put_number-b.result ≤ c.put_number-a.result + 11 = number-end _ _ _ _ _ c.put_number-b.ensures in
+      omega (arith, (let it : c.put_number-a.result ≤ 12 = number-end _ _ _ _ _ c.put_number-a.ensures in it)) in it),
+)
 
 pub put_int-d-requires : goal.put_int-d-requires
-put_int-d-requires c = omega (arith, (let it : c.put_number-c.result ≤ 34 = let end : c.put_number-c.result ≤ c.put_number-b.result + 11 = number-end _ _ _ _ _ c.put_number-c.ensures in
-    omega (arith, (let it : c.put_number-b.result ≤ 23 = let end : c.put_number-b.result ≤ c.put_number-a.result + 11 = number-end _ _ _ _ _ c.put_number-b.ensures in
-    omega (arith, (let it : c.put_number-a.result ≤ 12 = number-end _ _ _ _ _ c.put_number-a.ensures in it)) in it)) in it))
+put_int-d-requires c = omega (
+  arith,
+  (let it : c.put_number-c.result ≤ 34 = let end : c.put_number-c.result ≤ c.put_number-b.result + 11 = number-end _ _ _ _ _ c.put_number-c.ensures in
+      omega (
+        arith,
+        (let it : c.put_number-b.result ≤ 23 = let end : c.put_number-b.result ≤ c.put_number-a.result + 11 = number-end _ _ _ _ _ c.put_number-b.ensures in
+            omega (arith, (let it : c.put_number-a.result ≤ 12 = number-end _ _ _ _ _ c.put_number-a.ensures in it)) in it),
+      ) in it),
+)
 
 pub overflow_add-result : goal.overflow_add-result
-overflow_add-result c = omega (arith, (let it : c.put_int-d.result ≤ 46 = let end : c.put_int-d.result ≤ c.put_number-c.result + 12 = int-end _ _ _ _ _ c.put_int-d.ensures in
-    omega (arith, (let it : c.put_number-c.result ≤ 34 = let end : c.put_number-c.result ≤ c.put_number-b.result + 11 = number-end _ _ _ _ _ c.put_number-c.ensures in
-    omega (arith, (let it : c.put_number-b.result ≤ 23 = let end : c.put_number-b.result ≤ c.put_number-a.result + 11 = number-end _ _ _ _ _ c.put_number-b.ensures in
-    omega (arith, (let it : c.put_number-a.result ≤ 12 = number-end _ _ _ _ _ c.put_number-a.ensures in it)) in it)) in it)) in it))
+overflow_add-result c = omega (
+  arith,
+  (let it : c.put_int-d.result ≤ 46 = let end : c.put_int-d.result ≤ c.put_number-c.result + 12 = int-end _ _ _ _ _ c.put_int-d.ensures in
+      omega (
+        arith,
+        (let it : c.put_number-c.result ≤ 34 = let end : c.put_number-c.result ≤ c.put_number-b.result + 11 = number-end _ _ _ _ _ c.put_number-c.ensures in
+            omega (
+              arith,
+              (let it : c.put_number-b.result ≤ 23 = let end : c.put_number-b.result ≤ c.put_number-a.result + 11 = number-end _ _ _ _ _ c.put_number-b.ensures in
+                  omega (arith, (let it : c.put_number-a.result ≤ 12 = number-end _ _ _ _ _ c.put_number-a.ensures in it)) in it),
+            ) in it),
+      ) in it),
+)
 
 pub shape_of-out : goal.shape_of-out
 shape_of-out c =

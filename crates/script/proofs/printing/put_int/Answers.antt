@@ -1,7 +1,6 @@
 -- A space, a minus where the int is negative, then the digits.
 use mathlib.Core.Path.{◌∙◌}
 use Rattle.script.specs.Printing.{signed-small, minus-wrote}
-use borrow.Author.Rules.{rules}
 use Rattle.script.proofs.printing.put_int.Goals as goal
 
 pub returns-then-bits-lt-SIGN_BIT : goal.returns-then-bits-lt-SIGN_BIT

@@ -1,6 +1,5 @@
 -- A space, then the digits.
 use Rattle.script.specs.Printing.{number-wrote}
-use borrow.Author.Rules.{rules}
 use Rattle.script.proofs.printing.put_number.Goals as goal
 
 pub returns : goal.returns

@@ -3,7 +3,6 @@ use mathlib.Core.Path.{sym}
 use borrow.Author.Tests.{ne_eqb}
 use Rattle.script.specs.Commands.{said, decoded}
 use Rattle.script.specs.Calls.{drop-line, define-line, record-line, start-line, no_line, drop_keeps, record-keeps, start-keeps}
-use borrow.Author.Rules.{rules}
 use Rattle.script.proofs.reading.read_call.Goals as goal
 
 pub returns-in-68 : goal.returns-in-68

@@ -1,12 +1,10 @@
 -- A loader and a file. The table is written only if the whole line reads.
 use mathlib.Core.Path.{sym, ap, ◌∙◌}
 use lib.ListN.{length, length-drop}
-use borrow.Author.Tests.{not-true, not-false}
 use Rattle.definition.specs.Maybe.{◌>>=◌}
 use Rattle.script.specs.Commands.{said, decoded, command_of, file_onto}
 use Rattle.script.specs.Files.{pairs-length, file-quick, file-none}
 use Rattle.script.specs.Calls.{with_head, define_line}
-use borrow.Author.Rules.{rules}
 use native.Mathlib.Omega.{arith}
 use Rattle.script.proofs.reading.read_define.Goals as goal
 

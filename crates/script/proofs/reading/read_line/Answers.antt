@@ -4,7 +4,6 @@ use lib.ListN.{length, length-drop}
 use Rattle.script.specs.Commands.{said, decoded}
 use Rattle.script.specs.Calls.{single-keeps}
 use Rattle.script.specs.Lines.{line-long, line-one, line-joined, line-call}
-use borrow.Author.Rules.{rules}
 use native.Mathlib.Omega.{arith}
 use Rattle.script.proofs.reading.read_line.Goals as goal
 

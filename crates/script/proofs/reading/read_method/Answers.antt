@@ -4,7 +4,6 @@ use Rattle.definition.specs.Maybe.{◌>>=◌}
 use Rattle.script.specs.Commands.{said, command_of}
 use Rattle.script.specs.Numbers.{number-none, number-some}
 use Rattle.script.specs.Calls.{with_head, method_line}
-use borrow.Author.Rules.{rules}
 use Rattle.script.proofs.reading.read_method.Goals as goal
 
 pub returns-in_default : goal.returns-in_default

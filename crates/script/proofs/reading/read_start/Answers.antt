@@ -2,7 +2,6 @@
 use mathlib.Core.Path.{sym, ◌∙◌}
 use Rattle.script.specs.Commands.{said}
 use Rattle.script.specs.Calls.{with_head, start_line}
-use borrow.Author.Rules.{rules}
 use Rattle.script.proofs.reading.read_start.Goals as goal
 
 pub returns-in_default : goal.returns-in_default

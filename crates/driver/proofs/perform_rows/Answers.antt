@@ -1,0 +1,117 @@
+-- The loop has performed i rows: what is left of the list, performed on the tables as they are, is the whole list on the tables as they were.
+use Prim.Native.Nat.{◌+◌, ◌*◌, ◌-◌, ◌≤◌}
+use mathlib.Core.Path.{◌≡◌, refl, ◌∙◌}
+use native.Mathlib.Omega.{arith}
+use lib.ListN.{length}
+use borrow.Author.Tests.{not-true, not-false}
+use Rattle.definition.specs.Tables.{tables}
+use Rattle.driver.specs.Encoded.{call_in, calls_from, calls_in}
+use Rattle.driver.specs.Driven.{performed}
+use Rattle.driver.specs.Laws.{row_within, drive-begins, drive-ends, drive-stops, drive-on}
+use Rattle.driver.proofs.perform_rows.Goals as goal
+
+-- the entry of a turn, and the call in it
+abbrev turn : tie.After-perform-row invariant-loop decreases-loop → tie.In-loop invariant-loop decreases-loop
+turn c = c.before.before.before.before.before.before.before.before.before.before
+
+abbrev call : tie.After-slice-known18 invariant-loop decreases-loop → tie.After-perform-row invariant-loop decreases-loop
+call c = c.before.before.before.before.before.before.before.before.before.before.before.before.before.before.before.before.before.before
+
+pub loop-i-init : goal.loop-i-init
+loop-i-init c = (omega arith, drive-begins _ _ _ _, refl, refl, refl, refl, refl, refl, refl, refl, refl)
+
+pub perform_row-requires : goal.perform_row-requires
+perform_row-requires c = (let it : c.loop-i.i * 6 + 6 ≤ length c.args.list.now = row_within (length c.args.list.now) c.loop-i.i c.loop-i-test.true in it)
+
+pub shape_of-counts-then-not-perform_row : goal.shape_of-counts-then-not-perform_row
+shape_of-counts-then-not-perform_row c = (call (goal.at.shape_of-counts-then-not-perform_row c).After-slice_known-in-loop-i-9-1).perform-row.kept.0 ∙ (turn (call (goal.at.shape_of-counts-then-not-perform_row c).After-slice_known-in-loop-i-9-1)).before.loop.inv.2
+
+pub shape_of-classes-then-not-perform_row : goal.shape_of-classes-then-not-perform_row
+shape_of-classes-then-not-perform_row c = (call (goal.at.shape_of-classes-then-not-perform_row c).After-slice_known-in-loop-i-9-1).perform-row.kept.1.0 ∙ (turn (call (goal.at.shape_of-classes-then-not-perform_row c).After-slice_known-in-loop-i-9-1)).before.loop.inv.3
+
+pub shape_of-kept-then-not-perform_row : goal.shape_of-kept-then-not-perform_row
+shape_of-kept-then-not-perform_row c = (call (goal.at.shape_of-kept-then-not-perform_row c).After-slice_known-in-loop-i-9-1).perform-row.kept.1.1.0 ∙ (turn (call (goal.at.shape_of-kept-then-not-perform_row c).After-slice_known-in-loop-i-9-1)).before.loop.inv.4
+
+pub shape_of-cache-then-not-perform_row : goal.shape_of-cache-then-not-perform_row
+shape_of-cache-then-not-perform_row c = (call (goal.at.shape_of-cache-then-not-perform_row c).After-slice_known-in-loop-i-9-1).perform-row.kept.1.1.1.0 ∙ (turn (call (goal.at.shape_of-cache-then-not-perform_row c).After-slice_known-in-loop-i-9-1)).before.loop.inv.5
+
+pub shape_of-ties-then-not-perform_row : goal.shape_of-ties-then-not-perform_row
+shape_of-ties-then-not-perform_row c = (call (goal.at.shape_of-ties-then-not-perform_row c).After-slice_known-in-loop-i-9-1).perform-row.kept.1.1.1.1.0 ∙ (turn (call (goal.at.shape_of-ties-then-not-perform_row c).After-slice_known-in-loop-i-9-1)).before.loop.inv.6
+
+pub shape_of-subtypes-then-not-perform_row : goal.shape_of-subtypes-then-not-perform_row
+shape_of-subtypes-then-not-perform_row c = (call (goal.at.shape_of-subtypes-then-not-perform_row c).After-slice_known-in-loop-i-9-1).perform-row.kept.1.1.1.1.1.0 ∙ (turn (call (goal.at.shape_of-subtypes-then-not-perform_row c).After-slice_known-in-loop-i-9-1)).before.loop.inv.7
+
+pub shape_of-objects-then-not-perform_row : goal.shape_of-objects-then-not-perform_row
+shape_of-objects-then-not-perform_row c = (call (goal.at.shape_of-objects-then-not-perform_row c).After-slice_known-in-loop-i-9-1).perform-row.kept.1.1.1.1.1.1.0 ∙ (turn (call (goal.at.shape_of-objects-then-not-perform_row c).After-slice_known-in-loop-i-9-1)).before.loop.inv.8
+
+pub shape_of-frames-then-not-perform_row : goal.shape_of-frames-then-not-perform_row
+shape_of-frames-then-not-perform_row c = (call (goal.at.shape_of-frames-then-not-perform_row c).After-slice_known-in-loop-i-9-1).perform-row.kept.1.1.1.1.1.1.1.0 ∙ (turn (call (goal.at.shape_of-frames-then-not-perform_row c).After-slice_known-in-loop-i-9-1)).before.loop.inv.9
+
+pub shape_of-answers-then-not-perform_row : goal.shape_of-answers-then-not-perform_row
+shape_of-answers-then-not-perform_row c = (call (goal.at.shape_of-answers-then-not-perform_row c).After-slice_known-in-loop-i-9-1).perform-row.kept.1.1.1.1.1.1.1.1.1.1.0 ∙ (turn (call (goal.at.shape_of-answers-then-not-perform_row c).After-slice_known-in-loop-i-9-1)).before.loop.inv.10
+
+pub returns-then-not-perform_row : goal.returns-then-not-perform_row
+returns-then-not-perform_row c =
+    let d = call (goal.at.returns-then-not-perform_row c).After-slice_known-in-loop-i-9-1 in
+    let e = (turn d).before in
+    let given = e.before.before.before.before.before.before.before.before.before.before.before.before.args in
+    drive-stops (call_in given.list.now given.files.now) _ _ _ _ _ _ _ d.perform-row.ensures (turn d).loop-test.taken c.if-not-perform_row.true ∙ e.loop.inv.1
+
+pub overflow_add-i : goal.overflow_add-i
+overflow_add-i c =
+    let e = turn (call (goal.at.overflow_add-i c).After-slice_known-in-loop-i-9-1) in
+    omega (arith, within e, e.before.before.before.before.before.before.before.before.before.before.before.before.before.good.1.1.1.1.1.1.1.1.0.0)
+
+pub loop-i-smaller : goal.loop-i-smaller
+loop-i-smaller c = omega (arith, (turn (call (goal.at.loop-i-smaller c).After-slice_known-in-loop-i-9-1)).loop-test.taken)
+
+pub loop-i-preserved : goal.loop-i-preserved
+loop-i-preserved c =
+    let d = call (goal.at.loop-i-preserved c).After-slice_known-in-loop-i-9-1 in
+    let e = (turn d).before in
+    let given = e.before.before.before.before.before.before.before.before.before.before.before.before.args in (
+      omega (arith, (turn d).loop-test.taken),
+      drive-on (call_in given.list.now given.files.now) _ _ _ _ _ _ _ d.perform-row.ensures (turn d).loop-test.taken c.if-not-perform_row.false
+          ∙ e.loop.inv.1,
+      d.perform-row.kept.0 ∙ e.loop.inv.2,
+      d.perform-row.kept.1.0 ∙ e.loop.inv.3,
+      d.perform-row.kept.1.1.0 ∙ e.loop.inv.4,
+      d.perform-row.kept.1.1.1.0 ∙ e.loop.inv.5,
+      d.perform-row.kept.1.1.1.1.0 ∙ e.loop.inv.6,
+      d.perform-row.kept.1.1.1.1.1.0 ∙ e.loop.inv.7,
+      d.perform-row.kept.1.1.1.1.1.1.0 ∙ e.loop.inv.8,
+      d.perform-row.kept.1.1.1.1.1.1.1.0 ∙ e.loop.inv.9,
+      d.perform-row.kept.1.1.1.1.1.1.1.1.1.1.0 ∙ e.loop.inv.10,
+    )
+
+pub shape_of-counts : goal.shape_of-counts
+shape_of-counts c = c.loop-i.invariant.2
+
+pub shape_of-classes : goal.shape_of-classes
+shape_of-classes c = c.loop-i.invariant.3
+
+pub shape_of-kept : goal.shape_of-kept
+shape_of-kept c = c.loop-i.invariant.4
+
+pub shape_of-cache : goal.shape_of-cache
+shape_of-cache c = c.loop-i.invariant.5
+
+pub shape_of-ties : goal.shape_of-ties
+shape_of-ties c = c.loop-i.invariant.6
+
+pub shape_of-subtypes : goal.shape_of-subtypes
+shape_of-subtypes c = c.loop-i.invariant.7
+
+pub shape_of-objects : goal.shape_of-objects
+shape_of-objects c = c.loop-i.invariant.8
+
+pub shape_of-frames : goal.shape_of-frames
+shape_of-frames c = c.loop-i.invariant.9
+
+pub shape_of-answers : goal.shape_of-answers
+shape_of-answers c = c.loop-i.invariant.10
+
+pub returns : goal.returns
+returns c =
+    let given = c.args in
+    drive-ends (call_in given.list.now given.files.now) _ _ _ _ c.loop-i-test.false ∙ c.loop-i.invariant.1

@@ -1,0 +1,9 @@
+-- Three cells, one after another.
+use Rattle.driver.specs.Driven.{put_reply}
+use borrow.Author.Rules.{rules}
+use Rattle.driver.proofs.write_answer.Goals as goal
+
+pub returns : goal.returns
+unfolding put_reply
+returns c =
+    rw (c.put32-3.ensures, c.put32-2.ensures, c.put32.ensures, c.tell-it.ensures.0, c.tell-it.ensures.1, c.tell-it.ensures.2)
