@@ -19,7 +19,7 @@
    toolchain that proved it. A store that was saved under another layout is no store of this machine. */
 #define TARIFF_PAPERS 14
 #define TARIFF_LAYOUT 5
-#define TARIFF_TOOLCHAIN "rattle-kit-5b-plain logic 097e4c862dff5811"
+#define TARIFF_TOOLCHAIN "rattle-kit-13f logic dac8208d650f15bf"
 
 #define TARIFF_TEXT_(number) #number
 #define TARIFF_TEXT(number) TARIFF_TEXT_(number)

@@ -17,7 +17,7 @@ tree=$work/tree
 mkdir -p "$tree/bin"
 tests/copied "$tree"
 # a chain of few crates, so that it takes seconds
-printf 'definition:\ncells: definition\nlaws: definition\ndesk: definition cells laws\n' >"$tree/crates.txt"
+printf 'definition:\ncells: definition\nlaws: definition\ndesk staticlib: definition cells laws\n' >"$tree/crates.txt"
 cp tests/stand-in-rt "$tree/bin/rt"
 printf '#!/bin/sh\nexit 1\n' >"$tree/bin/cargo"
 cp "$tree/bin/cargo" "$tree/bin/rustc"
@@ -72,20 +72,19 @@ RT_SECONDS=0 PATH=$tree/bin:$PATH "$tree/tests/build" desk >"$work/said" 2>&1 ||
 [ "$(cat "$tree/target/staticlib/libdesk.a")" = whole ] || fail "the archive isn't whole"
 rm "$tree/target/built/desk"
 begun 30
-[ "$(cat "$tree/target/staticlib/libdesk.a")" = half ] || fail "the archive isn't being written"
+[ "$(cat "$tree/crates/desk/out/libdesk.a")" = half ] || fail "the archive isn't being written"
 kill -TERM "$box"
 gone "a signal TERM in the last step"
 "$tree/tests/build" --ask desk && fail "half an archive is trusted"
 # a crate that was proved isn't proved again, one that is damaged is
 : >"$RT_PIDS"
-rm -f "$tree/target/rlib/cells.rlib/format"
-mkdir -p "$tree/target/rlib/laws.rlib" && rm -f "$tree/target/stamp/laws"
+rm -f "$tree/crates/cells/out/rlib/cells.rlib/format" "$tree/crates/laws/out/rlib/stamp"
 RT_SECONDS=0 PATH=$tree/bin:$PATH "$tree/tests/build" desk >"$work/said" 2>&1 || fail "the next run doesn't go on: $(cat "$work/said")"
 [ "$(cat "$tree/target/staticlib/libdesk.a")" = whole ] && "$tree/tests/build" --ask desk || fail "the archive isn't whole"
 [ "$(wc -l <"$RT_PIDS")" -eq 3 ] || fail "proved again: $(wc -l <"$RT_PIDS"), and cells, laws and the archive were to be"
 
 # progress: a line as each crate ends, with no awk at all
-rm -rf "$tree/target"
+rm -rf "$tree/target" "$tree/crates/"*/out
 mkdir "$work/bin"
 for command in bash sh sed find sort xargs sha256sum cut cat dirname basename readlink grep rm mkdir mv sleep wc seq flock ps tr cp head; do
     there=$(command -v "$command") && ln -s "$there" "$work/bin/$command"
@@ -97,7 +96,7 @@ for _ in $(seq 600); do
     sleep 0.1
 done
 grep -q '^proved definition: 1 of 4 crates' "$work/said" || fail "the first crate isn't told: $(cat "$work/said")"
-grep -q proved "$tree/target/log/laws.res" 2>/dev/null && fail "the first crate isn't told when it ends"
+[ ! -e "$tree/crates/laws/out/rlib/stamp" ] || fail "the first crate isn't told when it ends"
 wait "$builder" || fail "the build fails: $(cat "$work/said")"
 [ "$(grep -c '^proved ' "$work/said")" -eq 4 ] || fail "not every crate is told: $(cat "$work/said")"
 sed -n 's/.*about \([0-9]*\) minute.*/\1/p' "$work/said" >"$work/minutes"

@@ -8,7 +8,7 @@ use definition::numbers::{
     CACHE_LENGTH, CLASSES_LENGTH, COUNTS_LENGTH, FRAMES_LENGTH, KEPT_LENGTH, OBJECTS_LENGTH,
     SUBTYPES_LENGTH, TIES_LENGTH,
 };
-use libc::{STDIN_FILENO, STDOUT_FILENO};
+use std::io::{Read, Write};
 
 // How many bytes were carried out, and whether the script is over.
 #[derive(Clone, Copy)]
@@ -25,18 +25,20 @@ struct State {
     over: bool,
 }
 
-// Reads on behind the bytes that the window holds; answers how many it holds then.
-fn read_on(window: &mut [u8], held: usize) -> usize
+// Reads on behind the bytes that the window holds; answers how many it holds then. A read that fails reads nothing, as at the end.
+fn read_on(reader: &mut impl Read, window: &mut [u8], held: usize) -> usize
     requires { held ≤ length window.old }
     ensures { result ≤ length window.new }
 {
-    let rest = &mut window[held..];
-    let got = libc::read(STDIN_FILENO, rest);
-    held + io::count(got, rest)
+    match reader.read(&mut window[held..]) {
+        Ok(n) => held + n,
+        Err(_) => held,
+    }
 }
 
-// Carries out the lines that are ready, as many as the output has room for, and writes their answers.
+// Carries out the lines that are ready, as many as the output has room for, and writes their answers. Where that fails, the script is over.
 fn carry(
+    writer: &mut impl Write,
     counts: &mut [u16],
     classes: &mut [u16],
     kept: &mut [u8],
@@ -55,7 +57,7 @@ fn carry(
         counts, classes, kept, cache, ties, subtypes, objects, frames, input, last, out,
     );
     let written = p.written;
-    let is_written = io::write_all(STDOUT_FILENO, &out[..written]);
+    let is_written = writer.write_all(&out[..written]).is_ok();
     Carried {
         read: p.read,
         over: !is_written || p.ended,
@@ -64,6 +66,8 @@ fn carry(
 
 // One turn: lines are carried out if some are ready, else more is read.
 fn turn(
+    reader: &mut impl Read,
+    writer: &mut impl Write,
     counts: &mut [u16],
     classes: &mut [u16],
     kept: &mut [u8],
@@ -81,6 +85,7 @@ fn turn(
     ensures { result.held ≤ length window.new }
 {
     let c = carry(
+        writer,
         counts,
         classes,
         kept,
@@ -109,7 +114,7 @@ fn turn(
             over: true,
         };
     }
-    let n = read_on(window, held);
+    let n = read_on(reader, window, held);
     State {
         held: n,
         last: n == held,
@@ -117,9 +122,10 @@ fn turn(
     }
 }
 
-// Turn after turn. A proved loop has to end, and nothing says that the input does: the turns are counted down from a number that no run
-// uses up.
+// Turn after turn. A proved loop has to end, and nothing says that the input does: no run uses up so many turns.
 fn talk(
+    reader: &mut impl Read,
+    writer: &mut impl Write,
     counts: &mut [u16],
     classes: &mut [u16],
     kept: &mut [u8],
@@ -133,18 +139,20 @@ fn talk(
 ) {
     let mut held = 0;
     let mut last = false;
-    let mut turns = u64::MAX;
-    while turns > 0 {
+    for _ in 0..u64::MAX {
         let s = turn(
-            counts, classes, kept, cache, ties, subtypes, objects, frames, window, held, last, out,
+            reader, writer, counts, classes, kept, cache, ties, subtypes, objects, frames, window,
+            held, last, out,
         );
+        if s.over {
+            break;
+        }
         held = s.held;
         last = s.last;
-        turns = if s.over { 0 } else { turns - 1 };
     }
 }
 
-fn main() {
+fn main(rt: HostRuntime) {
     let mut counts = [0u16; COUNTS_LENGTH];
     let mut classes = [0u16; CLASSES_LENGTH];
     let mut kept = [0u8; KEPT_LENGTH];
@@ -165,7 +173,11 @@ fn main() {
     );
     let mut window = [0u8; 131072];
     let mut out = [0u8; 65536];
+    let mut reader = rt.stdin();
+    let mut writer = rt.stdout();
     talk(
+        &mut reader,
+        &mut writer,
         &mut counts,
         &mut classes,
         &mut kept,

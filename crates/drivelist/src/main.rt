@@ -12,7 +12,8 @@ use definition::numbers::{
     SUBTYPES_LENGTH, TIES_LENGTH,
 };
 use driver::Outcome;
-use libc::{STDIN_FILENO, STDOUT_FILENO};
+use std::io;
+use std::io::{Read, Write};
 
 const LIST: usize = 600;
 
@@ -47,26 +48,24 @@ fn read_list(input: &[u8], list: &mut [u32]) {
     }
 }
 
-fn print_number(n: usize) {
-    io::print_decimal(STDOUT_FILENO, n as u64);
-    io::write_all(STDOUT_FILENO, b"\n");
+fn print_number(writer: &mut impl Write, n: usize) -> io::Result<()> {
+    writeln!(writer, "{n}")
 }
 
-fn print_outcome(outcome: Outcome) {
+fn print_outcome(writer: &mut impl Write, outcome: Outcome) -> io::Result<()> {
     match outcome {
-        Outcome::Refused => {
-            io::write_all(STDOUT_FILENO, b"Refused\n");
-        }
-        Outcome::Performed(n) => print_number(n),
+        Outcome::Refused => writer.write_all(b"Refused\n"),
+        Outcome::Performed(n) => print_number(writer, n),
     }
 }
 
-fn print_cells(table: &[u32]) {
+fn print_cells(writer: &mut impl Write, table: &[u32]) -> io::Result<()> {
     let mut i = 0;
     while i < table.len() {
-        print_number(cells::wide32(cells::at32(table, i)));
+        print_number(writer, cells::wide32(cells::at32(table, i)))?;
         i += 1;
     }
+    Ok(())
 }
 
 // A sum in which each cell's place counts.
@@ -74,38 +73,39 @@ fn sum_on(sum: usize, cell: usize) -> usize {
     ((sum % 4294967296) * 65599 + cell % 4294967296) % 4294967296
 }
 
-fn print_sum8(table: &[u8]) {
+fn print_sum8(writer: &mut impl Write, table: &[u8]) -> io::Result<()> {
     let mut sum = 0;
     let mut i = 0;
     while i < table.len() {
         sum = sum_on(sum, cells::wide8(cells::at8(table, i)));
         i += 1;
     }
-    print_number(sum);
+    print_number(writer, sum)
 }
 
-fn print_sum16(table: &[u16]) {
+fn print_sum16(writer: &mut impl Write, table: &[u16]) -> io::Result<()> {
     let mut sum = 0;
     let mut i = 0;
     while i < table.len() {
         sum = sum_on(sum, cells::wide16(cells::at16(table, i)));
         i += 1;
     }
-    print_number(sum);
+    print_number(writer, sum)
 }
 
-fn print_sum32(table: &[u32]) {
+fn print_sum32(writer: &mut impl Write, table: &[u32]) -> io::Result<()> {
     let mut sum = 0;
     let mut i = 0;
     while i < table.len() {
         sum = sum_on(sum, cells::wide32(cells::at32(table, i)));
         i += 1;
     }
-    print_number(sum);
+    print_number(writer, sum)
 }
 
 // Drives the list on as many cells of the counts, the list and the answers as the input says.
 fn drive_lent(
+    writer: &mut impl Write,
     counts: &mut [u16],
     classes: &mut [u16],
     kept: &mut [u8],
@@ -117,7 +117,7 @@ fn drive_lent(
     list: &[u32],
     input: &[u8],
     answers: &mut [u32],
-) {
+) -> io::Result<()> {
     let n = lent(input, 0, counts.len());
     let rows = lent(input, 1, list.len());
     let told = lent(input, 2, answers.len());
@@ -134,10 +134,11 @@ fn drive_lent(
         input,
         &mut answers[..told],
     );
-    print_outcome(outcome);
+    print_outcome(writer, outcome)
 }
 
 fn print_sums(
+    writer: &mut impl Write,
     counts: &[u16],
     classes: &[u16],
     kept: &[u8],
@@ -146,24 +147,42 @@ fn print_sums(
     subtypes: &[u16],
     objects: &[u32],
     frames: &[u32],
-) {
-    print_sum16(counts);
-    print_sum16(classes);
-    print_sum8(kept);
-    print_sum16(cache);
-    print_sum16(ties);
-    print_sum16(subtypes);
-    print_sum32(objects);
-    print_sum32(frames);
+) -> io::Result<()> {
+    print_sum16(writer, counts)?;
+    print_sum16(writer, classes)?;
+    print_sum8(writer, kept)?;
+    print_sum16(writer, cache)?;
+    print_sum16(writer, ties)?;
+    print_sum16(writer, subtypes)?;
+    print_sum32(writer, objects)?;
+    print_sum32(writer, frames)
 }
 
-fn read_input(list: &mut [u32], input: &mut [u8]) {
-    io::read_full(STDIN_FILENO, input);
+// Reads until the input is full or ends.
+fn read_full(reader: &mut impl Read, input: &mut [u8]) -> io::Result<()> {
+    let mut held = 0;
+    for _ in 0..u64::MAX {
+        if input.len() <= held {
+            break;
+        }
+        let n = reader.read(&mut input[held..])?;
+        if n == 0 {
+            break;
+        }
+        held += n;
+    }
+    Ok(())
+}
+
+fn read_input(reader: &mut impl Read, list: &mut [u32], input: &mut [u8]) -> io::Result<()> {
+    read_full(reader, input)?;
     read_list(input, list);
+    Ok(())
 }
 
 // Drives the list, and prints the answers and the sums.
 fn play(
+    writer: &mut impl Write,
     counts: &mut [u16],
     classes: &mut [u16],
     kept: &mut [u8],
@@ -175,17 +194,17 @@ fn play(
     list: &[u32],
     input: &[u8],
     answers: &mut [u32],
-) {
+) -> io::Result<()> {
     drive_lent(
-        counts, classes, kept, cache, ties, subtypes, objects, frames, list, input, answers,
-    );
-    print_cells(answers);
+        writer, counts, classes, kept, cache, ties, subtypes, objects, frames, list, input, answers,
+    )?;
+    print_cells(writer, answers)?;
     print_sums(
-        counts, classes, kept, cache, ties, subtypes, objects, frames,
-    );
+        writer, counts, classes, kept, cache, ties, subtypes, objects, frames,
+    )
 }
 
-fn main() {
+fn main(rt: HostRuntime) -> io::Result<()> {
     let mut counts = [0u16; COUNTS_LENGTH];
     let mut classes = [0u16; CLASSES_LENGTH];
     let mut kept = [0u8; KEPT_LENGTH];
@@ -197,8 +216,9 @@ fn main() {
     let mut list = [0u32; LIST];
     let mut input = [0u8; 65536];
     let mut answers = [0u32; 300];
-    read_input(&mut list, &mut input);
+    read_input(&mut rt.stdin(), &mut list, &mut input)?;
     play(
+        &mut rt.stdout(),
         &mut counts,
         &mut classes,
         &mut kept,
@@ -210,5 +230,5 @@ fn main() {
         &list,
         &input,
         &mut answers,
-    );
+    )
 }

@@ -1,0 +1,6 @@
+-- The window holds no more than it has room for.
+use Rattle.std.proofs.Common.{◌≤◌, length}
+use Rattle.boxscript.proofs.talk.Given as goal
+
+abbrev pub invariant-loop : goal.invariant-loop
+invariant-loop g l = l.held ≤ length l.window
