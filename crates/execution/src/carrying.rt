@@ -25,7 +25,7 @@ use posting::Posting;
 const TIE_NUMBERS: u16 = TIE_NUMBERS_CELL as u16;
 
 // How many ties and subtype constraints there were before a step.
-#[derive(Drop)]
+#[derive(Clone, Copy)]
 pub(crate) struct Before {
     pub(crate) ties: u16,
     pub(crate) subtypes: u16,

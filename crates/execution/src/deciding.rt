@@ -16,7 +16,7 @@ use posting::Posting;
 use verifier::Reading;
 
 // What a new object asks for. The lowest number unused may be sought from `free` on; `made` is how many objects the report made, if it is the report's turn.
-#[derive(Drop)]
+#[derive(Clone, Copy)]
 pub(crate) struct Room {
     pub free: u16,
     pub made: u16,
@@ -111,7 +111,7 @@ fn act(
 }
 
 // What a step chooses: ties, a plan, and the point at which the frame goes on unless it jumps.
-#[derive(Drop)]
+#[derive(Clone, Copy)]
 pub struct Choice {
     pub posting: Posting,
     pub plan: Plan,

@@ -1,4 +1,6 @@
 // One step, a run of steps, and the start of a task, on the lent tables.
+#![tactic(auto)]
+
 mod settling; // settling.rt: a plan with the ties that it posts
 mod deciding; // deciding.rt: the decision on the instruction of a top frame
 mod entering; // entering.rt: a frame entered with its arguments

@@ -129,7 +129,7 @@ fn fact_of(
 }
 
 // A place, and what is right for it.
-#[derive(Drop)]
+#[derive(Clone, Copy)]
 pub(crate) struct Place {
     pub known: bool,
     pub key: u16,

@@ -133,7 +133,7 @@ fn reach(
 }
 
 // How many instructions were done, and the number of the opcode before which it ended, 0 if that isn't known.
-#[derive(Drop)]
+#[derive(Clone, Copy)]
 pub(crate) struct Pace {
     pub steps: u16,
     pub stop: u8,

@@ -73,7 +73,7 @@ fn check_ties(
 }
 
 // What a step decides: the ties that it posts, and the plan that it then carries out.
-#[derive(Drop)]
+#[derive(Clone, Copy)]
 pub struct Decision {
     pub posting: Posting,
     pub plan: Plan,

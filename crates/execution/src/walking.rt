@@ -11,7 +11,7 @@ use frames::Top;
 use instructions::Plan;
 
 // Whether an instruction was done; then the frame's point and its number of operands.
-#[derive(Drop)]
+#[derive(Clone, Copy)]
 pub(crate) struct Moved {
     pub on: bool,
     pub point: u32,

@@ -19,14 +19,14 @@ pub bounds-carried-i : goal.bounds-carried-i
 bounds-carried-i c =
     let loop = c.loop-i in
     let args = c.args in
-    omega (arith, loop.invariant.0.sized, rows-length (cell_of args.old-counts.now args.n) counts_length 0, c.loop-i-test.true)
+    omega (arith, loop.invariant.0.sized, rows-length (cell_of args.old_counts.now args.n) counts_length 0, c.loop-i-test.true)
 
 pub loop-i-preserved : goal.loop-i-preserved
 loop-i-preserved c =
     let loop = c.loop-i in
     let args = c.args in
     let l = c.loop-i-test.true in
-    (copying-cell _ loop.invariant.0 (omega (arith, rows-length (cell_of args.old-counts.now args.n) counts_length 0, l)) (c.cell_of.ensures ∙ listed_at (cell_of args.old-counts.now args.n) loop.i (omega (arith, l))), omega (arith, l), behind-set loop.carried loop.i c.cell_of.result l loop.invariant.2)
+    (copying-cell _ loop.invariant.0 (omega (arith, rows-length (cell_of args.old_counts.now args.n) counts_length 0, l)) (c.cell_of.ensures ∙ listed_at (cell_of args.old_counts.now args.n) loop.i (omega (arith, l))), omega (arith, l), behind-set loop.carried loop.i c.cell_of.result l loop.invariant.2)
 
 pub shape_of-carried : goal.shape_of-carried
 shape_of-carried c = sym c.loop-i.invariant.0.sized ∙ (rows-length _ counts_length 0 ∙ sym c.requires.1.sized)

@@ -14,10 +14,10 @@ loop-o-init c = (omega arith, omega arith, free-start _ _ _ _ _ c.at16-rows.ensu
 
 pub loop-o-preserved : goal.loop-o-preserved
 loop-o-preserved c =
-    ⊎_elim
-    (λ w. (omega (arith, c.loop-o-test.true), omega (arith, w.7, c.loop-o.invariant.1), rw (w.6, w.7, w.3.ensures, w.2.ensures.0) (free-turn _ _ _ _ _ c.loop-o-test.true (sym c.is_dead.ensures ∙ w.0.taken)) ∙ c.loop-o.invariant.2, ap length w.6 ∙ (w.3.kept.0 ∙ c.loop-o.invariant.3)))
-    (λ w. (omega (arith, c.loop-o-test.true), omega (arith, w.2, c.loop-o.invariant.1), rw (w.1, w.2) (keep-turn _ _ _ _ _ c.loop-o-test.true (sym c.is_dead.ensures ∙ w.0.left)) ∙ c.loop-o.invariant.2, ap length w.1 ∙ c.loop-o.invariant.3))
-    c.if-is_dead.branch
+    elim c.if-is_dead.branch [
+      | goal.then-is_dead w ↦ (omega (arith, c.loop-o-test.true), omega (arith, w.number-is, c.loop-o.invariant.1), rw (w.counts-is, w.number-is, w.put16.ensures, w.wide16.ensures.0) (free-turn _ _ _ _ _ c.loop-o-test.true (sym c.is_dead.ensures ∙ w.if-is_dead.true)) ∙ c.loop-o.invariant.2, ap length w.counts-is ∙ (w.put16.auto.t ∙ c.loop-o.invariant.3))
+      | goal.else-is_dead w ↦ (omega (arith, c.loop-o-test.true), omega (arith, w.number-is, c.loop-o.invariant.1), rw (w.counts-is, w.number-is) (keep-turn _ _ _ _ _ c.loop-o-test.true (sym c.is_dead.ensures ∙ w.if-is_dead.false)) ∙ c.loop-o.invariant.2, ap length w.counts-is ∙ c.loop-o.invariant.3)
+    ]
 
 pub returns : goal.returns
 returns c = sym (free-end _ _ _ _ _ c.loop-o-test.false) ∙ c.loop-o.invariant.2

@@ -1,0 +1,81 @@
+-- The class's name, then what is cached, then room.
+use mathlib.Core.Path.{◌≡◌, refl, sym, ap, ◌∙◌}
+use mathlib.Core.Option.{some}
+use native.Mathlib.Omega.{arith}
+use lib.ListN.{length, get_or, get_elem?}
+use Rattle.definition.specs.Lists.{rows}
+use Rattle.definition.specs.Answers.{number}
+use Rattle.definition.specs.Tables.{entry_at, class_row_at}
+use Rattle.layout.specs.Places.{rows-length}
+use Rattle.resolution.specs.Quick.{quick_class, quick_base, class-there, found_at, found-absent}
+use Rattle.resolution.specs.Lookups.{name_in}
+use Rattle.loading.specs.Entering.{Recorded}
+use Rattle.loading.proofs.Recorded.{misnamed, there, taken, full, judged, name-is}
+use borrow.Author.Rules.{rules}
+use Rattle.loading.proofs.admitting.admit_entry.Goals as goal
+use Rattle.loading.proofs.admitting.admit_entry.Goals.{After-name_of-own}
+
+-- the class's own name
+module _ (c : After-name_of-own) where
+  own_is : c.name_of-own.result ≡ (quick_class c.args.kept.now (class_row_at c.args.classes.now c.args.class)).name
+  own_is =
+      c.name_of-own.ensures
+      ∙ (ap (name_in c.args.counts.now c.args.classes.now c.args.kept.now) c.from16.ensures.0
+      ∙ name-is c.args.counts.now c.args.classes.now c.args.kept.now c.args.class c.requires)
+
+  class-known : get_elem? (quick_base c.args.counts.now c.args.classes.now c.args.kept.now c.args.cache.now).classes c.args.class
+      ≡ some (quick_class c.args.kept.now (class_row_at c.args.classes.now c.args.class))
+  class-known = class-there c.args.counts.now c.args.classes.now c.args.kept.now c.args.cache.now c.args.class c.requires
+
+pub returns-then-from16-name : goal.returns-then-from16-name
+unfolding Recorded number
+returns-then-from16-name c = λ ts ss hl hn.
+    let m = (goal.at.returns-then-from16-name c).After-name_of-own in
+    (misnamed _ _ _ _ hl hn _ (class-known m) (λ q. c.if-from16-name.true (c.from16-2.ensures.0 ∙ (own_is m ∙ q))), λ z. omega arith)
+
+pub returns-then-d-from16 : goal.returns-then-d-from16
+unfolding Recorded quick_base
+returns-then-d-from16 c = λ ts ss hl hn.
+    let m = (goal.at.returns-then-d-from16 c).After-name_of-own in
+    there _ _ _ _ hl hn _ (class-known m) _ (sym (own_is m)) (sym c.from16-2.ensures.0 ∙ c.if-from16-name.false) _
+    (rw c.from8.ensures.0 at (found_at _ _ (sym c.find-found.ensures ∙ c.in-At.is))) (c.if-d-from16.true ∙ c.from16-in-At.ensures.0)
+
+pub returns-in-At : goal.returns-in-At
+unfolding Recorded quick_base number
+returns-in-At c = λ ts ss hl hn.
+    let m = (goal.at.returns-in-At c).After-name_of-own in (
+      taken _ _ _ _ hl hn _ (class-known m) _ (sym (own_is m)) (sym c.from16-2.ensures.0 ∙ c.if-from16-name.false) _
+          (rw c.from8.ensures.0 at (found_at _ _ (sym c.find-found.ensures ∙ c.in-At.is))) (λ q. c.if-d-from16.false (q ∙ sym c.from16-in-At.ensures.0)),
+      λ z. omega arith,
+    )
+
+pub returns-then-at16-ge-CACHE_LIMIT : goal.returns-then-at16-ge-CACHE_LIMIT
+unfolding Recorded quick_base number
+returns-then-at16-ge-CACHE_LIMIT c = λ ts ss hl hn.
+    let m = (goal.at.returns-then-at16-ge-CACHE_LIMIT c).After-name_of-own in
+    let counts = c.args.counts.now in
+    let n : length (rows (entry_at c.args.cache.now) (get_or counts 2 0) 0) ≡ get_or counts 2 0 = rows-length _ _ _ in (
+      full _ _ _ _ hl hn _ (class-known m) _ (sym (own_is m)) (sym c.from16-2.ensures.0 ∙ c.if-from16-name.false)
+          (rw c.from8.ensures.0 at (found-absent _ (sym c.find-found.ensures ∙ c.in_default.is))) (omega (arith, c.at16.ensures, c.if-at16-ge-CACHE_LIMIT.true)),
+      λ z. omega arith,
+    )
+
+pub returns : goal.returns
+unfolding Recorded quick_base
+returns c = λ ts ss hl hn.
+    let m = (goal.at.returns c).After-name_of-own in
+    let counts = c.args.counts.now in
+    let n : length (rows (entry_at c.args.cache.now) (get_or counts 2 0) 0) ≡ get_or counts 2 0 = rows-length _ _ _ in
+    let own = sym c.from16-2.ensures.0 ∙ c.if-from16-name.false in (
+      judged _ _ _ _ hl hn _ (class-known m) _ (sym (own_is m)) own
+          (rw c.from8.ensures.0 at (found-absent _ (sym c.find-found.ensures ∙ c.in_default.is))) (omega (arith, c.at16.ensures, c.if-at16-ge-CACHE_LIMIT.false)),
+      record {
+        loader = refl;
+        name = own;
+        class = refl;
+        above = refl;
+        tied = c.at16-2.ensures;
+        noted = c.at16-3.ensures;
+        room = omega (arith, c.at16.ensures, c.if-at16-ge-CACHE_LIMIT.false);
+      },
+    )

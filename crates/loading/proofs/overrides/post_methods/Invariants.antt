@@ -1,0 +1,19 @@
+use mathlib.Core.Path.{◌≡◌, sym, ◌∙◌}
+use Prim.Native.Nat.{◌+◌, ◌*◌, ◌-◌, ◌≤◌}
+use native.Mathlib.Omega.{arith}
+use lib.ListN.{length}
+use Rattle.definition.specs.Lists.{rows, write_rows}
+use Rattle.definition.specs.Loading.{override_ties}
+use Rattle.definition.specs.Tables.{tie_at, put_tie}
+use Rattle.classfile.specs.Reading.{method_in, quick_methods}
+use Rattle.resolution.specs.Quick.{quick_base}
+use Rattle.loading.specs.Posting.{TiesPosted}
+use Rattle.loading.proofs.Posted.{posts-start, posts-on, posts-end, posted-few, posted-long}
+use borrow.Author.Rules.{rules}
+use Rattle.loading.proofs.overrides.post_methods.Given as goal
+
+abbrev pub invariant-loop-j : goal.invariant-loop-j
+invariant-loop-j l = (l.j ≤ l.n) × (l.total + 5 * (l.n - l.j) ≤ 296) × (length l.ties ≡ 888) × TiesPosted (override_ties (quick_base l.counts l.classes l.kept l.cache) l.loader l.p (rows (tie_at l.ties) l.total 0) (rows (method_in l.file) (l.n - l.j) l.j)) l.ties l.total (write_rows put_tie (override_ties (quick_base l.counts l.classes l.kept l.cache) l.loader l.p (rows (tie_at l.initial.ties) l.count 0) (rows (method_in l.file) l.n 0)) l.count l.initial.ties) (l.count + length (override_ties (quick_base l.counts l.classes l.kept l.cache) l.loader l.p (rows (tie_at l.initial.ties) l.count 0) (rows (method_in l.file) l.n 0)))
+
+abbrev pub decreases-loop-j : goal.decreases-loop-j
+decreases-loop-j l = l.n - l.j

@@ -1,0 +1,5 @@
+-- `more` falls at each call.
+use Rattle.script.proofs.printing.+put_digits.Given as goal
+
+abbrev pub decreases-put_digits : goal.decreases-put_digits
+decreases-put_digits l = l.more
