@@ -5,12 +5,12 @@ use Rattle.std.proofs.Math.Option.{some, some-injective}
 use Rattle.definition.specs.Lists.{rows, index_of}
 use Rattle.definition.specs.Requests.{at}
 use Rattle.definition.specs.Superclasses.{nearest, below}
-use Rattle.definition.specs.Classes.{Base, find, super_of, has_field, slots, slot_is}
+use Rattle.definition.specs.Classes.{find, super_of, has_field, slots, slot_is}
 use Rattle.definition.specs.Constraints.{Tie, new_tie, new_ties}
 use Rattle.definition.specs.declared.Instruction.{Instruction}
 use Rattle.definition.specs.declared.Instruction.TheVariants.{AconstNull, Sipush, Load, Store, Pop, Dup, Arithmetic, Branch, Getfield, Putfield, Invokevirtual, New, Return}
 use Rattle.definition.specs.Instructions.{Decoded, decode}
-use Rattle.definition.specs.Tables.{Tables, tables, tie_at, ties_of, used_fields}
+use Rattle.definition.specs.Tables.{tables, tie_at, used_fields}
 use Rattle.definition.specs.declared.Answer.{Answer}
 use Rattle.definition.specs.Calls.{done, step_tables}
 use Rattle.classfile.specs.Reading.{file_version, quick_methods}
@@ -18,7 +18,6 @@ use Rattle.resolution.specs.Quick.{quick_base, file_in, loader_in, loader-quick}
 use Rattle.resolution.specs.Lookups.{code_in}
 use Rattle.instructions.specs.Plans.{decoded}
 use Rattle.access.specs.Members.{field-used, ties-one}
-use Rattle.unbroken.specs.Parts.{Longer}
 use Rattle.execution.specs.Memory.{Right, tag_of, right-more, right-cleared}
 use Rattle.execution.specs.Memory as memory
 use Rattle.execution.specs.Remembered.{FieldFact, field-lasts}

@@ -1,21 +1,20 @@
 -- getfield and putfield whose slot is remembered for the receiver's class: the decision on them, off the row and the object's cells alone.
-use Rattle.std.specs.Prelude.{◌≡◌, refl, Bool, true, false, List, [], ◌∷◌, ◌≢◌, ℕ, zero, suc, ◌+◌, ◌-◌, ◌*◌, ◌<◌, ◌≤◌, length, get_or}
+use Rattle.std.specs.Prelude.{◌≡◌, true, List, [], ◌∷◌, ◌≢◌, ℕ, ◌+◌, ◌-◌, ◌*◌, ◌≤◌, get_or}
 use Rattle.std.proofs.Math.Path.{sym, ap}
 use Rattle.std.proofs.Common.{◌∙◌, append-nil}
 use Rattle.std.proofs.Math.Option.{some}
 use native.Mathlib.Omega.{arith}
 use Rattle.std.proofs.Math.ListN.{get_elem?}
-use Rattle.definition.specs.Lists.{rows, stack}
+use Rattle.definition.specs.Lists.{stack}
 use Rattle.definition.specs.Classes.{Base, Class}
-use Rattle.definition.specs.Constraints.{World, Tie, posted}
+use Rattle.definition.specs.Constraints.{World, posted}
 use Rattle.definition.specs.declared.Instruction.TheVariants.{Getfield, Putfield}
-use Rattle.definition.specs.Answers.{ok, ◌>>=◌, take?}
-use Rattle.definition.specs.Machine.{Value, object_value, Object, Objects, Frame, existing, execute}
-use Rattle.definition.specs.Tables.{Tables, tables, tie_at, value_of, operand_at, local_at, field_at, used_fields, object_at, frame_of, frame_in, objects_of}
+use Rattle.definition.specs.Answers.{◌>>=◌, take?}
+use Rattle.definition.specs.Machine.{Value, object_value, execute}
+use Rattle.definition.specs.Tables.{Tables, tables, tie_at, value_of, operand_at, field_at, used_fields, object_at, frame_of, frame_in, objects_of}
 use Rattle.layout.specs.Places.{rows_at, rows-length, stack_top}
 use Rattle.frames.specs.declared.Cell.{Cell}
 use Rattle.frames.specs.Unused.{is_used, used-there}
-use Rattle.instructions.specs.declared.Plan.{Plan}
 use Rattle.instructions.specs.declared.Plan.TheVariants.{Above, Field}
 use Rattle.instructions.specs.Plans.{decoded, meaning}
 use Rattle.instructions.specs.Operands.{positive, is_kind, kind-is}

@@ -1,11 +1,11 @@
 -- An instruction that touches its frame alone, done on the frame's row.
 use Rattle.std.specs.Prelude.{◌≡◌, refl, Bool, List, length, set, leb}
 use Rattle.std.proofs.Math.Path.{sym, ap}
-use Rattle.std.proofs.Common.{◌∙◌, true≢false, arith, add-one, get_or-set_same, le-leb}
+use Rattle.std.proofs.Common.{◌∙◌, true≢false, arith, get_or-set_same, le-leb}
 use Rattle.std.proofs.Math.Bool.{true, false}
 use Rattle.std.proofs.lemmas.Bool.{false≢true}
 use Rattle.std.proofs.Math.Option.{Option, none, some}
-use Prim.Native.Nat.{ℕ, zero, suc, ◌+◌, ◌*◌, ◌<◌, ◌≤◌}
+use Prim.Native.Nat.{ℕ, suc, ◌+◌, ◌*◌, ◌<◌, ◌≤◌}
 use Rattle.std.proofs.Math.ListN.{get_or, length-set}
 use Rattle.std.proofs.Math.Seq.{get_or-set_other}
 use Rattle.definition.specs.Lists.{rows, stack}
@@ -27,7 +27,6 @@ use Rattle.instructions.specs.declared.Plan.{Plan}
 use Rattle.instructions.specs.declared.Plan.TheVariants.{Refuse, Keep, Jump, Above, Local, Give, Finish, Field, Enter, Make}
 use Rattle.instructions.specs.Plans.{decoded, meaning, FrameOnly}
 use Rattle.execution.specs.declared.walking.Moved.{Moved}
-use Rattle.execution.specs.Opcodes.{opcode_numbered, Numbers, numbered-at}
 use Rattle.execution.specs.RowCells.{IsRow, operand_row, local-row}
 
 -- p is a point of the code, which is short enough

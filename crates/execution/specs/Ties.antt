@@ -1,23 +1,23 @@
 -- A step appends ties, and leaves the number of classes and of cached names.
 use Rattle.std.specs.Prelude.{◌≡◌, refl, Bool, ℕ, length, get_or}
 use Rattle.std.proofs.Common.{sym, ap, ◌∙◌}
-use mathlib.Core.List.{List, [], ◌∷◌, ◌++◌, append-nil}
+use mathlib.Core.List.{List, [], ◌∷◌, append-nil}
 use Rattle.definition.specs.declared.Answer.{Answer}
 use Rattle.definition.specs.declared.Answer.TheVariants.{Refused}
 use Rattle.definition.specs.declared.Instruction.{Instruction}
 use Rattle.definition.specs.declared.Instruction.TheVariants.{AconstNull, Sipush, Load, Store, Pop, Dup, Arithmetic, Branch, Getfield, Putfield, Invokevirtual, New, Return}
-use Rattle.definition.specs.Answers.{Result, ok, ◌>>=◌}
+use Rattle.definition.specs.Answers.{ok}
 use Rattle.definition.specs.Classes.{Class}
-use Rattle.definition.specs.Constraints.{Tie, World, posted, post}
+use Rattle.definition.specs.Constraints.{Tie, World, post}
 use Rattle.definition.specs.Instructions.{Decoded}
 use Rattle.definition.specs.Machine.{Value, Objects, Frame, Progress, give, execute, step}
-use Rattle.definition.specs.Tables.{Tables, tables, Rows, class_row_at, entry_at, ties_of, class_rows_of, cache_of, world_of, view_over, view}
+use Rattle.definition.specs.Tables.{Tables, Rows, class_row_at, entry_at, ties_of, class_rows_of, cache_of, world_of, view_over, view}
 use Rattle.definition.specs.Calls.{Given, Done, done, step_task, step_on, step_rows, step_tables}
 use Rattle.laws.specs.Wrapped.{Ok, ok_at, then}
 use Rattle.layout.specs.Places.{rows-length}
 use Rattle.unbroken.specs.Calls.{step-whole}
 use Rattle.unbroken.specs.Unbroken.{shown}
-use Rattle.unbroken.specs.Parts.{Longer, Goes, step-leaves}
+use Rattle.unbroken.specs.Parts.{Longer, step-leaves}
 
 same : (xs : List Tie) → Longer xs xs
 same xs = record { new = []; is = sym (append-nil xs) }

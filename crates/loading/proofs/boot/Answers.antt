@@ -1,8 +1,6 @@
 -- Lengths are all that is tested; then the counts, class 0 and the one entry are written.
 use mathlib.Core.Path.{sym, ◌∙◌}
-use borrow.Author.Tests.{not-true, not-false}
 use Rattle.loading.proofs.Laws.{boot-denied, boot-done}
-use borrow.Author.Rules.{rules}
 use Rattle.loading.proofs.boot.Goals as goal
 
 pub returns-then-not-is_shaped : goal.returns-then-not-is_shaped

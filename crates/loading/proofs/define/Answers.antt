@@ -8,7 +8,6 @@ use Rattle.definition.specs.Calls.{done, load_define}
 use Rattle.entries.proofs.Offers.{offered-whole}
 use Rattle.loading.specs.Plans.{load_of, held, Lent, file_of, counts_with, grouped_with, written, Planned}
 use Rattle.loading.proofs.Admitted.{planned-new}
-use borrow.Author.Rules.{rules}
 use Rattle.loading.proofs.define.Goals as goal
 
 pub admit-admitted-requires : goal.admit-admitted-requires
@@ -17,15 +16,15 @@ admit-admitted-requires c = (refl, refl)
 
 pub write_class-requires : goal.write_class-requires
 unfolding load_of held file_of
-write_class-requires c =     (planned-new _ c.in-Add.is (c.decide_class-plan.ensures c.args.loader c.args.file.now 512 _ _ _ _ c.admit-admitted.ensures)).newly.file
+write_class-requires c = (planned-new _ c.in-Add.is (c.decide_class-plan.ensures c.args.loader c.args.file.now 512 _ _ _ _ c.admit-admitted.ensures)).newly.file
 
 pub overflow_add-number : goal.overflow_add-number
 unfolding load_of held
-overflow_add-number c =     omega (arith, c.at16-number.ensures, (planned-new _ c.in-Add.is (c.decide_class-plan.ensures c.args.loader c.args.file.now 512 _ _ _ _ c.admit-admitted.ensures)).newly.fits.sized.base.classes_few)
+overflow_add-number c = omega (arith, c.at16-number.ensures, (planned-new _ c.in-Add.is (c.decide_class-plan.ensures c.args.loader c.args.file.now 512 _ _ _ _ c.admit-admitted.ensures)).newly.fits.sized.base.classes_few)
 
 pub overflow_cast-end : goal.overflow_cast-end
 unfolding load_of held file_of
-overflow_cast-end c =     omega (arith, (planned-new _ c.in-Add.is (c.decide_class-plan.ensures c.args.loader c.args.file.now 512 _ _ _ _ c.admit-admitted.ensures)).newly.file)
+overflow_cast-end c = omega (arith, (planned-new _ c.in-Add.is (c.decide_class-plan.ensures c.args.loader c.args.file.now 512 _ _ _ _ c.admit-admitted.ensures)).newly.file)
 
 pub overflow_add-end : goal.overflow_add-end
 unfolding load_of held file_of
@@ -39,15 +38,15 @@ enter_class-requires c = let sized = (planned-new _ c.in-Add.is (c.decide_class-
 
 pub reply_of-requires : goal.reply_of-requires
 unfolding load_of held
-reply_of-requires c =     (planned-new _ c.in-Add.is (c.decide_class-plan.ensures c.args.loader c.args.file.now 512 _ _ _ _ c.admit-admitted.ensures)).newly.fits.sized.class
+reply_of-requires c = (planned-new _ c.in-Add.is (c.decide_class-plan.ensures c.args.loader c.args.file.now 512 _ _ _ _ c.admit-admitted.ensures)).newly.fits.sized.class
 
 pub returns-in-Refuse : goal.returns-in-Refuse
 unfolding load_of held Planned
-returns-in-Refuse c =     rw c.in-Refuse.is at (c.decide_class-plan.ensures c.args.loader c.args.file.now 512 _ _ _ _ c.admit-admitted.ensures) ∙ offered-whole (load_define c.args.loader c.args.file.now) (tables c.args.counts.now c.args.classes.now c.args.kept.now c.args.cache.now c.args.ties.now c.args.subtypes.now c.args.objects.now c.args.frames.now)
+returns-in-Refuse c = rw c.in-Refuse.is at (c.decide_class-plan.ensures c.args.loader c.args.file.now 512 _ _ _ _ c.admit-admitted.ensures) ∙ offered-whole (load_define c.args.loader c.args.file.now) (tables c.args.counts.now c.args.classes.now c.args.kept.now c.args.cache.now c.args.ties.now c.args.subtypes.now c.args.objects.now c.args.frames.now)
 
 pub returns-in-Keep : goal.returns-in-Keep
 unfolding load_of held Planned
-returns-in-Keep c =     rw c.in-Keep.is at (c.decide_class-plan.ensures c.args.loader c.args.file.now 512 _ _ _ _ c.admit-admitted.ensures) ∙ offered-whole (load_define c.args.loader c.args.file.now) (tables c.args.counts.now c.args.classes.now c.args.kept.now c.args.cache.now c.args.ties.now c.args.subtypes.now c.args.objects.now c.args.frames.now)
+returns-in-Keep c = rw c.in-Keep.is at (c.decide_class-plan.ensures c.args.loader c.args.file.now 512 _ _ _ _ c.admit-admitted.ensures) ∙ offered-whole (load_define c.args.loader c.args.file.now) (tables c.args.counts.now c.args.classes.now c.args.kept.now c.args.cache.now c.args.ties.now c.args.subtypes.now c.args.objects.now c.args.frames.now)
 
 pub shape_of-counts-in-Add : goal.shape_of-counts-in-Add
 shape_of-counts-in-Add c = c.enter_class.auto.counts
@@ -74,7 +73,7 @@ returns-in-Add c = let counts = c.args.counts.now in
     let n = c.in-Add.n in
     let class = c.write_class.ensures in
     (λ i. done (c.reply_of.ensures i) (tables
-    ((c.enter_class.ensures.counted ∙ (λ j. grouped_with n counts (class.bytes.1.0 j) (counts_with n (c.at16-number.ensures j + 1) (c.at16.ensures j + length file) counts))) i)
-    (class.row i) (class.bytes.0 i) (c.enter_class.ensures.written i) (class.bytes.1.0 i) (class.bytes.1.1 i)
+    ((c.enter_class.ensures.counted ∙ (λ j. grouped_with n counts (class.tied j) (counts_with n (c.at16-number.ensures j + 1) (c.at16.ensures j + length file) counts))) i)
+    (class.row i) (class.bytes i) (c.enter_class.ensures.written i) (class.tied i) (class.noted i)
     c.args.objects.now c.args.frames.now))
     ∙ ((planned-new _ c.in-Add.is (c.decide_class-plan.ensures c.args.loader c.args.file.now 512 _ _ _ _ c.admit-admitted.ensures)).whole ∙ offered-whole (load_define c.args.loader c.args.file.now) (tables c.args.counts.now c.args.classes.now c.args.kept.now c.args.cache.now c.args.ties.now c.args.subtypes.now c.args.objects.now c.args.frames.now))

@@ -1,7 +1,6 @@
 -- A broken store is refused, then a task that is not there; another loses its frames by its count.
 use mathlib.Core.Path.{sym, ◌∙◌}
 use Rattle.loading.proofs.Laws.{drop-broken, drop-unknown, drop-done}
-use borrow.Author.Rules.{rules}
 use Rattle.loading.proofs.drop_task.Goals as goal
 
 pub returns-then-is_broken : goal.returns-then-is_broken

@@ -6,7 +6,6 @@ use Rattle.definition.specs.Calls.{done, load_record}
 use Rattle.entries.proofs.Offers.{offered-whole}
 use Rattle.loading.specs.Plans.{load_of, held, Lent, counts_with, written, Planned}
 use Rattle.loading.proofs.Admitted.{planned-new}
-use borrow.Author.Rules.{rules}
 use Rattle.loading.proofs.record.Goals as goal
 
 pub admit-admitted-requires : goal.admit-admitted-requires
@@ -20,15 +19,15 @@ enter-requires c = let sized = (planned-new _ c.in-Add.is (c.decide_entry-plan.e
 
 pub reply_of-requires : goal.reply_of-requires
 unfolding load_of held
-reply_of-requires c =     (planned-new _ c.in-Add.is (c.decide_entry-plan.ensures c.args.loader c.args.name c.args.class 512 _ _ _ _ c.admit-admitted.ensures)).newly.fits.sized.class
+reply_of-requires c = (planned-new _ c.in-Add.is (c.decide_entry-plan.ensures c.args.loader c.args.name c.args.class 512 _ _ _ _ c.admit-admitted.ensures)).newly.fits.sized.class
 
 pub returns-in-Refuse : goal.returns-in-Refuse
 unfolding load_of held Planned
-returns-in-Refuse c =     rw c.in-Refuse.is at (c.decide_entry-plan.ensures c.args.loader c.args.name c.args.class 512 _ _ _ _ c.admit-admitted.ensures) ∙ offered-whole (load_record c.args.loader c.args.name c.args.class) (tables c.args.counts.now c.args.classes.now c.args.kept.now c.args.cache.now c.args.ties.now c.args.subtypes.now c.args.objects.now c.args.frames.now)
+returns-in-Refuse c = rw c.in-Refuse.is at (c.decide_entry-plan.ensures c.args.loader c.args.name c.args.class 512 _ _ _ _ c.admit-admitted.ensures) ∙ offered-whole (load_record c.args.loader c.args.name c.args.class) (tables c.args.counts.now c.args.classes.now c.args.kept.now c.args.cache.now c.args.ties.now c.args.subtypes.now c.args.objects.now c.args.frames.now)
 
 pub returns-in-Keep : goal.returns-in-Keep
 unfolding load_of held Planned
-returns-in-Keep c =     rw c.in-Keep.is at (c.decide_entry-plan.ensures c.args.loader c.args.name c.args.class 512 _ _ _ _ c.admit-admitted.ensures) ∙ offered-whole (load_record c.args.loader c.args.name c.args.class) (tables c.args.counts.now c.args.classes.now c.args.kept.now c.args.cache.now c.args.ties.now c.args.subtypes.now c.args.objects.now c.args.frames.now)
+returns-in-Keep c = rw c.in-Keep.is at (c.decide_entry-plan.ensures c.args.loader c.args.name c.args.class 512 _ _ _ _ c.admit-admitted.ensures) ∙ offered-whole (load_record c.args.loader c.args.name c.args.class) (tables c.args.counts.now c.args.classes.now c.args.kept.now c.args.cache.now c.args.ties.now c.args.subtypes.now c.args.objects.now c.args.frames.now)
 
 pub returns-in-Add : goal.returns-in-Add
 unfolding load_of held written

@@ -4,7 +4,6 @@ use Rattle.definition.specs.Tables.{tables}
 use Rattle.definition.specs.Calls.{load_define}
 use Rattle.loading.specs.Plans.{load_of, held, Lent}
 use Rattle.loading.proofs.Admitted.{admitted-ready}
-use borrow.Author.Rules.{rules}
 use Rattle.loading.proofs.try_define.Goals as goal
 
 pub admit-admitted-requires : goal.admit-admitted-requires

@@ -3,7 +3,6 @@ use Rattle.definition.specs.Tables.{tables}
 use Rattle.definition.specs.Calls.{load_record}
 use Rattle.loading.specs.Plans.{load_of, held, Lent}
 use Rattle.loading.proofs.Admitted.{admitted-ready}
-use borrow.Author.Rules.{rules}
 use Rattle.loading.proofs.try_record.Goals as goal
 
 pub admit-admitted-requires : goal.admit-admitted-requires

@@ -2,7 +2,6 @@
 use mathlib.Core.Path.{◌≡◌, sym, ◌∙◌}
 use mathlib.Core.Bool.{true, false}
 use native.Mathlib.Omega.{arith}
-use borrow.Author.Tests.{not-true, not-false}
 use Rattle.definition.specs.Tables.{Tables, tables}
 use Rattle.definition.specs.Broken.{broken}
 use Rattle.entries.specs.World.{loadable}
@@ -11,7 +10,6 @@ use Rattle.loading.proofs.Admitted.{admits-broken, admits-unknown, admits-short}
 use Rattle.loading.proofs.Carried.{class-admitted}
 use Rattle.loading.proofs.Recorded.{entry-admitted}
 use Rattle.loading.proofs.Known.{define-loader, define-lent, record-entry, load-unknown, load-known}
-use borrow.Author.Rules.{rules}
 use Rattle.loading.proofs.admitting.admit.Goals as goal
 use Rattle.loading.proofs.admitting.admit.Goals.{Else-not-is_known}
 

@@ -3,18 +3,11 @@ use mathlib.Core.Path.{refl}
 use Rattle.classfile.specs.Reading.{quick_file}
 use Rattle.loading.specs.Stages.{above_of, Decided}
 use Rattle.loading.proofs.Defined.{super-cached, super-words, placed-refused, placed_below, decided-same}
-use borrow.Author.Rules.{rules}
 use Rattle.loading.proofs.admitting.admit_class.Goals as goal
-use Rattle.loading.proofs.admitting.admit_class.Goals.{After-find_super-above}
-
--- the superclass that was found
-module _ (c : After-find_super-above) where
-  
 
 pub admit_constraints-requires : goal.admit_constraints-requires
 unfolding above_of quick_file
 admit_constraints-requires c =
-    let call = (goal.at.admit_constraints-requires c).After-find_super-above in
     let pre = c.requires in
     (pre.0, pre.1, pre.2, pre.3, super-cached _ _ _ (rw c.in-Class.is at c.find_super-above.ensures))
 

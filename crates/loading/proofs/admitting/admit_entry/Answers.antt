@@ -11,7 +11,6 @@ use Rattle.resolution.specs.Quick.{quick_class, quick_base, class-there, found_a
 use Rattle.resolution.specs.Lookups.{name_in}
 use Rattle.loading.specs.Entering.{Recorded}
 use Rattle.loading.proofs.Recorded.{misnamed, there, taken, full, judged, name-is}
-use borrow.Author.Rules.{rules}
 use Rattle.loading.proofs.admitting.admit_entry.Goals as goal
 use Rattle.loading.proofs.admitting.admit_entry.Goals.{After-name_of-own}
 

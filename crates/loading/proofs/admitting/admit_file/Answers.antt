@@ -16,9 +16,8 @@ use Rattle.verifier.proofs.PostingLaws.{rows-say}
 use Rattle.entries.proofs.Laws.{copied}
 use Rattle.loading.specs.Stages.{Decided}
 use Rattle.loading.proofs.Defined.{no-file, unmapped-there, unverified, verified-as, after-as, decided-same}
-use borrow.Author.Rules.{rules}
 use Rattle.loading.proofs.admitting.admit_file.Goals as goal
-use Rattle.loading.proofs.admitting.admit_file.Goals.{After-admit_class, After-struct_known-1, After-verify_class-arg-1, After-verify_class-verified, Else-not-reads}
+use Rattle.loading.proofs.admitting.admit_file.Goals.{After-verify_class-verified, Else-not-reads}
 
 -- the file reads
 module _ (c : Else-not-reads) where
@@ -27,22 +26,18 @@ module _ (c : Else-not-reads) where
 
 -- the notes are posted to a copy of the subtype constraints
 module _ (c : After-verify_class-verified) where
-  ounted.before.before.before
+  read : is_some (read_file c.args.file.now) ≡ true
+  read = sym c.reads.ensures ∙ c.if-not-reads.false
 
-opy.before.before
-
-  abbrev read : tie.Else1
-  read = c
-
-  same : c.write_cells.last.0 ≡ read.args.subtypes.now
-  same = c.write_cells.ensures ∙ copied _ _ (read.pre.0.subtypes_long ∙ sym read.pre.3)
+  same : c.write_cells.new.t ≡ c.args.subtypes.now
+  same = c.write_cells.ensures ∙ copied _ _ (c.requires.0.subtypes_long ∙ sym c.requires.3)
 
   posted : verification c.verify_class-verified.result.accepts (noted c.verify_class-verified.new.subtypes c.verify_class-verified.result.count)
-      ≡ posting read.args.loader (class_trace read.args.file.now) (noted read.args.subtypes.now (get_or read.args.counts.now 4 0))
-  posted = c.verify_class-verified.ensures ∙ (λ i. posting read.args.loader (class_trace read.args.file.now) (noted (same i) (c.at16-count.ensures i)))
+      ≡ posting c.args.loader (class_trace c.args.file.now) (noted c.args.subtypes.now (get_or c.args.counts.now 4 0))
+  posted = c.verify_class-verified.ensures ∙ (λ i. posting c.args.loader (class_trace c.args.file.now) (noted (same i) (c.at16-count.ensures i)))
 
-  unmapped-not : any (unmapped_in (file_version read.args.file.now)) (quick_methods read.args.file.now) ≡ false
-  unmapped-not = sym c.is_class_unmapped.ensures ∙ c.if-is_class_unmapped.left
+  unmapped-not : any (unmapped_in (file_version c.args.file.now)) (quick_methods c.args.file.now) ≡ false
+  unmapped-not = sym c.is_class_unmapped.ensures ∙ c.if-is_class_unmapped.false
 
 pub returns-then-not-reads : goal.returns-then-not-reads
 unfolding Decided number
@@ -50,21 +45,25 @@ returns-then-not-reads c = (no-file _ _ _ _ c.requires.1 (sym c.reads.ensures �
 
 pub returns-then-is_class_unmapped : goal.returns-then-is_class_unmapped
 unfolding Decided number
-returns-then-is_class_unmapped c = let r = (goal.at.returns-then-is_class_unmapped c).Else-not-reads in (unmapped-there _ _ _ _ c.requires.1 (reads r) (sym c.is_class_unmapped.ensures ∙ c.if-is_class_unmapped.true), λ z. omega arith)
+returns-then-is_class_unmapped c =
+    let r = (goal.at.returns-then-is_class_unmapped c).Else-not-reads in
+    (unmapped-there _ _ _ _ c.requires.1 (reads r) (sym c.is_class_unmapped.ensures ∙ c.if-is_class_unmapped.true), λ z. omega arith)
 
 pub returns-then-not-verified : goal.returns-then-not-verified
 unfolding Decided number
-returns-then-not-verified c = let v = (goal.at.returns-then-not-verified c).After-verify_class-verified in (unverified _ _ _ _ (start (read v)).pre.1 (reads (read v)) (unmapped-not v) _ _ _ (posted v) (not-true _ c.if-not-verified.true), λ z. omega arith)
+returns-then-not-verified c =
+    let v = (goal.at.returns-then-not-verified c).After-verify_class-verified in
+    (unverified _ _ _ _ c.requires.1 (read v) (unmapped-not v) _ _ _ (posted v) (not-true _ c.if-not-verified.true), λ z. omega arith)
 
 pub admit_class-requires : goal.admit_class-requires
-admit_class-requires c = let v = (goal.at.admit_class-requires c).After-verify_class-arg-1 in
-    let file = file-readable _ _ (reads-some _ (reads (read v))) in
-    ((start (read v)).pre.0, file.size, file.few_methods, (start (read v)).pre.2)
+admit_class-requires c =
+    let v = (goal.at.admit_class-requires c).After-verify_class-verified in
+    let file = file-readable _ _ (reads-some _ (read v)) in
+    (c.requires.0, file.size, file.few_methods, c.requires.2)
 
 pub returns : goal.returns
-returns c = let last = (goal.at.returns c).After-admit_class in
-    let met = (goal.at.returns c).After-struct_known-1 in
-    let v = (goal.at.returns c).After-verify_class-arg-1 in
-    decided-same _ _ _ _ _ _ _ _ (verified-as _ _ _ _ (start (read v)).pre.1 (reads (read v)) (unmapped-not v) _ _ _ (posted v) (not-false _ c.if-not-verified.false))
-    (after-as _ _ false _ (start (read v)).pre.1 (reads (read v)) (unmapped-not v) _ _ _ (posted v) (not-false _ c.if-not-verified.false))
+returns c =
+    let v = (goal.at.returns c).After-verify_class-verified in
+    decided-same _ _ _ _ _ _ _ _ (verified-as _ _ _ _ c.requires.1 (read v) (unmapped-not v) _ _ _ (posted v) (not-false _ c.if-not-verified.false))
+    (after-as _ _ false _ c.requires.1 (read v) (unmapped-not v) _ _ _ (posted v) (not-false _ c.if-not-verified.false))
     (c.admit_class.ensures _ (rows-say _ _ _ _ _ (posted v)))

@@ -1,7 +1,6 @@
 -- A define's loader; a record's loader, name and class, in turn.
 use mathlib.Core.Path.{◌∙◌}
 use Rattle.loading.proofs.Known.{define-tested, record-no-loader, record-no-name, record-tested}
-use borrow.Author.Rules.{rules}
 use Rattle.loading.proofs.admitting.is_known.Goals as goal
 
 pub returns-then-loader-ge-LOADER_LIMIT : goal.returns-then-loader-ge-LOADER_LIMIT

@@ -9,7 +9,6 @@ use Rattle.definition.specs.Tables.{put_three}
 use Rattle.loading.specs.Writing.{numbers_on}
 use Rattle.loading.specs.Plans.{counts_over, counts_with}
 use Rattle.loading.proofs.Remembered.{grown-remembered, numbers-same}
-use borrow.Author.Rules.{rules}
 use Rattle.loading.proofs.carrying.enter.Goals as goal
 
 pub overflow_add-row : goal.overflow_add-row
@@ -25,6 +24,9 @@ returns c =
     let n = args.n in
     let counts = args.counts.now in
     let row = c.at16-row.ensures in
-    record { counted = c.write_counts.ensures
+    record {
+      counted = c.write_counts.ensures
           ∙ ((λ i. numbers_on (c.remember.ensures i) n.tied n.noted (write_rows set (args.classes ∷ args.kept ∷ (row i + 1) ∷ n.tied ∷ n.noted ∷ []) 0 (c.remember.ensures i)))
-          ∙ numbers-same counts n.tied n.noted _); written = c.put_three.ensures ∙ (λ i. put_three args.cache.now (row i) (c.from8.ensures.0 i) n.name n.class) }
+          ∙ numbers-same counts n.tied n.noted _);
+      written = c.put_three.ensures ∙ (λ i. put_three args.cache.now (row i) (c.from8.ensures.0 i) n.name n.class);
+    }

@@ -3,12 +3,10 @@ use mathlib.Core.Path.{◌≡◌, refl, sym, ◌∙◌}
 use mathlib.Core.List.{List}
 use Prim.Native.Nat.{ℕ}
 use lib.ListN.{get_or}
-use lib.Dec.{eqb}
 use borrow.Author.Tests.{eq-eqb, ne_eqb}
 use Rattle.groups.specs.Numbered.{regrouped}
 use Rattle.loading.specs.declared.loads.Newcomer.{Newcomer}
 use Rattle.loading.specs.Plans.{grouped_with}
-use borrow.Author.Rules.{rules}
 use Rattle.loading.proofs.carrying.enter_class.Goals as goal
 
 -- d are the counts c

@@ -4,7 +4,6 @@ use native.Mathlib.Omega.{arith}
 use lib.ListN.{length, set}
 use Rattle.definition.specs.Lists.{write_rows}
 use Rattle.definition.specs.Tables.{put_three}
-use borrow.Author.Rules.{rules}
 use Rattle.loading.proofs.carrying.write_class.Goals as goal
 
 pub overflow_cast-file : goal.overflow_cast-file
@@ -12,11 +11,11 @@ overflow_cast-file c = omega (arith, c.requires)
 
 pub returns : goal.returns
 returns c =
-    let all = let args = c.args in
-    let start = c.at16-start.ensures in (
-      c.put_three.ensures ∙ (λ i. put_three args.classes.now (c.at16.ensures i) (c.from8.ensures.0 i) (start i) (length args.file.now)),
-      (
-        c.write_bytes.ensures ∙ (λ i. write_rows set args.file.now (start i) args.kept.now),
-        (c.write_cells.ensures, c.write_cells-2.ensures),
-      ),
-    ) in record { row = all.0; bytes = all.1; tied = all.2; noted = all.3 }
+    let args = c.args in
+    let start = c.at16-start.ensures in
+    record {
+      row = c.put_three.ensures ∙ (λ i. put_three args.classes.now (c.at16.ensures i) (c.from8.ensures.0 i) (start i) (length args.file.now));
+      bytes = c.write_bytes.ensures ∙ (λ i. write_rows set args.file.now (start i) args.kept.now);
+      tied = c.write_cells.ensures;
+      noted = c.write_cells-2.ensures;
+    }

@@ -1,7 +1,6 @@
 -- The counts are written first, then the numbers by the counts as they were. There are as many numbers as rows in both tables.
 use mathlib.Core.Path.{◌∙◌}
 use native.Mathlib.Omega.{arith}
-use borrow.Author.Rules.{rules}
 use Rattle.store.specs.Numbering.{numbered-few}
 use Rattle.loading.specs.Writing.{numbers_on}
 use Rattle.loading.proofs.carrying.write_counts.Goals as goal

@@ -5,7 +5,6 @@ use borrow.Author.Tests.{le-leb, lt-leb, lt-ltb, le-ltb}
 use Rattle.definition.specs.Lists.{every}
 use Rattle.loading.specs.Stages.{room_for}
 use Rattle.classfile.specs.Lists.{every-last}
-use borrow.Author.Rules.{rules}
 use Rattle.loading.proofs.constraining.has_room.Goals as goal
 
 pub overflow_add-wide16 : goal.overflow_add-wide16

@@ -1,6 +1,5 @@
 -- The groups of a define's ties are right, stored or made, so it is decided by agreement.
 use Rattle.loading.proofs.Admitted.{made-grouping, kept-grouping}
-use borrow.Author.Rules.{rules}
 use Rattle.loading.proofs.lending.decide_class.Goals as goal
 
 pub returns-then-posts_none : goal.returns-then-posts_none

@@ -1,6 +1,5 @@
 -- The groups beside the stored ties are right, so a record is decided by agreement.
 use Rattle.loading.proofs.Admitted.{stored-grouping}
-use borrow.Author.Rules.{rules}
 use Rattle.loading.proofs.lending.decide_entry.Goals as goal
 
 pub returns : goal.returns

@@ -2,7 +2,6 @@
 use native.Mathlib.Omega.{arith}
 use Rattle.constraints.specs.Laws.{beside-made}
 use Rattle.loading.specs.Plans.{Made}
-use borrow.Author.Rules.{rules}
 use Rattle.loading.proofs.lending.group_ties.Goals as goal
 
 pub returns-in-Refuse : goal.returns-in-Refuse

@@ -1,6 +1,5 @@
 -- The groups of a define's ties are right, so its try is answered by agreement.
 use Rattle.loading.proofs.Admitted.{made-grouping}
-use borrow.Author.Rules.{rules}
 use Rattle.loading.proofs.lending.offer_class.Goals as goal
 
 pub returns : goal.returns

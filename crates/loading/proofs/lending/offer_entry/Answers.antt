@@ -1,6 +1,5 @@
 -- The groups beside the stored ties are right, so the try of a record is answered by agreement.
 use Rattle.loading.proofs.Admitted.{stored-grouping}
-use borrow.Author.Rules.{rules}
 use Rattle.loading.proofs.lending.offer_entry.Goals as goal
 
 pub returns : goal.returns

@@ -2,7 +2,6 @@
 use mathlib.Core.Path.{◌∙◌}
 use borrow.Author.Tests.{eqb-true}
 use Rattle.loading.specs.Plans.{PostsNone}
-use borrow.Author.Rules.{rules}
 use Rattle.loading.proofs.lending.posts_none.Goals as goal
 
 pub returns-in-Refuse : goal.returns-in-Refuse

@@ -5,7 +5,6 @@ use Prim.Native.Nat.{ℕ, ◌-◌}
 use native.Mathlib.Omega.{arith}
 use lib.ListN.{length, take, drop, length-drop, drop_of_length-le}
 use lib.Seq.{take-length, drop-length}
-use borrow.Author.Rules.{rules}
 use Rattle.loading.proofs.lending.stored_groups.Goals as goal
 
 rest : (l : List ℕ) (n : ℕ) → take (length l - n) (drop n l) ≡ drop n l

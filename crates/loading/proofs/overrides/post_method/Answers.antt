@@ -1,6 +1,5 @@
 -- The method's record gives the signature that posting goes by.
 use Rattle.loading.proofs.Defined.{method-there, method-signed}
-use borrow.Author.Rules.{rules}
 use Rattle.loading.proofs.overrides.post_method.Goals as goal
 
 pub returns-in_default : goal.returns-in_default

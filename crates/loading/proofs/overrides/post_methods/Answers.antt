@@ -1,16 +1,8 @@
 -- Before method j is posted, what the methods from j on post is what is left; there is room for five ties a method.
-use mathlib.Core.Path.{◌≡◌, sym, ◌∙◌}
-use Prim.Native.Nat.{◌+◌, ◌*◌, ◌-◌, ◌≤◌}
+use mathlib.Core.Path.{sym, ◌∙◌}
 use native.Mathlib.Omega.{arith}
-use lib.ListN.{length}
-use Rattle.definition.specs.Lists.{rows, write_rows}
-use Rattle.definition.specs.Loading.{override_ties}
-use Rattle.definition.specs.Tables.{tie_at, put_tie}
-use Rattle.classfile.specs.Reading.{method_in, quick_methods}
-use Rattle.resolution.specs.Quick.{quick_base}
-use Rattle.loading.specs.Posting.{TiesPosted}
+use Rattle.classfile.specs.Reading.{quick_methods}
 use Rattle.loading.proofs.Posted.{posts-start, posts-on, posts-end, posted-few, posted-long}
-use borrow.Author.Rules.{rules}
 use Rattle.loading.proofs.overrides.post_methods.Goals as goal
 
 pub loop-j-init : goal.loop-j-init

@@ -1,15 +1,12 @@
-use mathlib.Core.Path.{◌≡◌, sym, ◌∙◌}
+use mathlib.Core.Path.{◌≡◌}
 use Prim.Native.Nat.{◌+◌, ◌*◌, ◌-◌, ◌≤◌}
-use native.Mathlib.Omega.{arith}
 use lib.ListN.{length}
 use Rattle.definition.specs.Lists.{rows, write_rows}
 use Rattle.definition.specs.Loading.{override_ties}
 use Rattle.definition.specs.Tables.{tie_at, put_tie}
-use Rattle.classfile.specs.Reading.{method_in, quick_methods}
+use Rattle.classfile.specs.Reading.{method_in}
 use Rattle.resolution.specs.Quick.{quick_base}
 use Rattle.loading.specs.Posting.{TiesPosted}
-use Rattle.loading.proofs.Posted.{posts-start, posts-on, posts-end, posted-few, posted-long}
-use borrow.Author.Rules.{rules}
 use Rattle.loading.proofs.overrides.post_methods.Given as goal
 
 abbrev pub invariant-loop-j : goal.invariant-loop-j

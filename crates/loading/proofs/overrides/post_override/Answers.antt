@@ -7,7 +7,6 @@ use Rattle.definition.specs.Tables.{tie_at}
 use Rattle.resolution.specs.Quick.{quick_base, loader-quick}
 use Rattle.resolution.specs.Lookups.{selection-at, selection-absent}
 use Rattle.loading.proofs.Posted.{posts-none, posts-all, few-new}
-use borrow.Author.Rules.{rules}
 use Rattle.loading.proofs.overrides.post_override.Goals as goal
 use Rattle.loading.proofs.overrides.post_override.Goals.{After-loader_of-other}
 

@@ -5,7 +5,6 @@ use Rattle.classfile.specs.Reading.{quick_file, super_name}
 use Rattle.resolution.specs.Quick.{quick_base, found_at, found-absent}
 use Rattle.loading.specs.Stages.{above_of}
 use Rattle.loading.proofs.Defined.{super-taken, super-wanted, super-fits}
-use borrow.Author.Rules.{rules}
 use Rattle.loading.proofs.superclasses.find_super.Goals as goal
 
 pub returns-in_default : goal.returns-in_default

@@ -2,7 +2,6 @@
 use mathlib.Core.Path.{sym, ◌∙◌}
 use Rattle.loading.specs.Plans.{file_of, Admitted, Grouping}
 use Rattle.loading.proofs.Admitted.{decides-refuse, decides-keep, decides-add, decides-clash}
-use borrow.Author.Rules.{rules}
 use Rattle.loading.proofs.trying.decide.Goals as goal
 
 pub returns-then-is_agreed : goal.returns-then-is_agreed

@@ -12,7 +12,6 @@ use Rattle.definition.specs.Reasons.{unlisted, listed}
 use Rattle.loading.specs.Plans.{file_of}
 use Rattle.loading.proofs.Copied.{grown-kept, new-reason}
 use Rattle.loading.proofs.Admitted.{tries-new, tries-clash}
-use borrow.Author.Rules.{rules}
 use Rattle.loading.proofs.trying.explain.Goals as goal
 
 enough : (n : ℕ) → n ≡ counts_length → 8 ≤ n

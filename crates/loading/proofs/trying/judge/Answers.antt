@@ -2,7 +2,6 @@
 use mathlib.Core.Path.{◌∙◌}
 use Rattle.definition.specs.Constraints.{agrees}
 use Rattle.loading.proofs.Copied.{new-names}
-use borrow.Author.Rules.{rules}
 use Rattle.loading.proofs.trying.judge.Goals as goal
 
 pub returns : goal.returns
@@ -10,5 +9,8 @@ unfolding agrees
 returns c =
     let args = c.args in
     let tried = c.try_newcomer.ensures in
-    record { tried = tried; judged = λ nl bl sl g bs f. c.agreed.ensures ∙ (new-names args.counts.now args.classes.now args.kept.now args.cache.now bs args.n f _ _ _ _ _ _ nl bl sl tried
-          args.ties.now args.beside.now args.subtypes.now _ _ _ c.at16.ensures c.at16-2.ensures g c.check.ensures).exactly }
+    record {
+      tried = tried;
+      judged = λ nl bl sl g bs f. c.agreed.ensures ∙ (new-names args.counts.now args.classes.now args.kept.now args.cache.now bs args.n f _ _ _ _ _ _ nl bl sl tried
+          args.ties.now args.beside.now args.subtypes.now _ _ _ c.at16.ensures c.at16-2.ensures g c.check.ensures).exactly;
+    }

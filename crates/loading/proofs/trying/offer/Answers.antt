@@ -2,7 +2,6 @@
 use mathlib.Core.Path.{◌∙◌}
 use Rattle.loading.specs.Plans.{Admitted, Grouping}
 use Rattle.loading.proofs.Admitted.{ready-new, tries-refused, tries-kept}
-use borrow.Author.Rules.{rules}
 use Rattle.loading.proofs.trying.offer.Goals as goal
 
 pub explain-requires : goal.explain-requires

@@ -1,6 +1,5 @@
 -- The entry is tried; a new class's direct superclass is put in its cell.
 use Rattle.loading.proofs.Copied.{entry-tried, class-tried}
-use borrow.Author.Rules.{rules}
 use Rattle.loading.proofs.trying.try_newcomer.Goals as goal
 
 pub returns-then-n-ne0 : goal.returns-then-n-ne0

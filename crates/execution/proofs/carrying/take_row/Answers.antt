@@ -1,0 +1,6 @@
+-- The object count is written, and then the row's owner: 1 and the task.
+use native.Mathlib.Numerals.{add-one}
+use Rattle.execution.proofs.carrying.take_row.Goals as goal
+
+pub returns : goal.returns
+returns c = rw (c.write_owner.ensures, c.put16.ensures, c.rows_with.ensures, c.at16-n.ensures, c.from16.ensures.0, c.from8.ensures.0, add-one)

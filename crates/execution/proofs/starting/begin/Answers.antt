@@ -1,0 +1,14 @@
+-- The object's row, the first frame's row, the row's owner, and both counts; the arguments after the first are empty, as all locals behind it are.
+use Rattle.definition.specs.Instructions.{pick}
+use Rattle.definition.specs.Lists.{filled}
+use Rattle.definition.specs.Tables.{value_of}
+use Rattle.execution.proofs.starting.begin.Goals as goal
+
+pub returns : goal.returns
+unfolding value_of pick filled
+returns c =
+    record {
+      counted = rw (c.put16.ensures, c.write_frame_count.ensures, c.take_row.ensures);
+      made = rw (c.write_new.ensures, c.from16.ensures.0);
+      entered = rw (c.write_entry.ensures, c.row.ensures, c.from16-2.ensures.0, c.empty.ensures, c.empty-2.ensures, c.empty-3.ensures);
+    }
