@@ -1,3 +1,2 @@
 // The proved cases P1 to P10: statements only.
 #![tactic(auto)]
-

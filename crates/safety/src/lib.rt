@@ -1,3 +1,2 @@
 // The safety of the machine: proofs only.
 #![tactic(auto)]
-

@@ -1,3 +1,2 @@
 // Every call keeps an unbroken store unbroken: proofs only.
 #![tactic(auto)]
-

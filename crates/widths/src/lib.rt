@@ -1,3 +1,2 @@
 // Cells keep their widths under every call, and cells that hold no row are untouched: proofs only.
 #![tactic(auto)]
-

@@ -49,27 +49,26 @@ returns-then-not-perform_row c =
 
 pub overflow_add-i : goal.overflow_add-i
 overflow_add-i c =
-    omega (arith, within e, e.before.before.before.before.before.before.before.before.before.before.before.before.before.good.1.1.1.1.1.1.1.1.0.0)
+    omega (arith, row_within (length c.args.list.now) c.loop-i.i c.loop-i-test.true, c.well_formed)
 
 pub loop-i-smaller : goal.loop-i-smaller
 loop-i-smaller c = omega (arith, c.loop-i-test.true)
 
 pub loop-i-preserved : goal.loop-i-preserved
-loop-i-preserved c =
-    (
-      omega (arith, c.loop-i-test.true),
-      drive-on (call_in c.args.list.now c.args.files.now) _ _ _ _ _ _ _ c.perform_row.ensures c.loop-i-test.true c.if-not-perform_row.false
-          ∙ c.loop-i.invariant.1,
-      c.perform_row.auto.counts ∙ c.loop-i.invariant.2,
-      c.perform_row.auto.classes ∙ c.loop-i.invariant.3,
-      c.perform_row.auto.kept ∙ c.loop-i.invariant.4,
-      c.perform_row.auto.cache ∙ c.loop-i.invariant.5,
-      c.perform_row.auto.ties ∙ c.loop-i.invariant.6,
-      c.perform_row.auto.subtypes ∙ c.loop-i.invariant.7,
-      c.perform_row.auto.objects ∙ c.loop-i.invariant.8,
-      c.perform_row.auto.frames ∙ c.loop-i.invariant.9,
-      c.perform_row.auto.answers ∙ c.loop-i.invariant.10,
-    )
+loop-i-preserved c = (
+  omega (arith, c.loop-i-test.true),
+  drive-on (call_in c.args.list.now c.args.files.now) _ _ _ _ _ _ _ c.perform_row.ensures c.loop-i-test.true c.if-not-perform_row.false
+      ∙ c.loop-i.invariant.1,
+  c.perform_row.auto.counts ∙ c.loop-i.invariant.2,
+  c.perform_row.auto.classes ∙ c.loop-i.invariant.3,
+  c.perform_row.auto.kept ∙ c.loop-i.invariant.4,
+  c.perform_row.auto.cache ∙ c.loop-i.invariant.5,
+  c.perform_row.auto.ties ∙ c.loop-i.invariant.6,
+  c.perform_row.auto.subtypes ∙ c.loop-i.invariant.7,
+  c.perform_row.auto.objects ∙ c.loop-i.invariant.8,
+  c.perform_row.auto.frames ∙ c.loop-i.invariant.9,
+  c.perform_row.auto.answers ∙ c.loop-i.invariant.10,
+)
 
 pub shape_of-counts : goal.shape_of-counts
 shape_of-counts c = c.loop-i.invariant.2

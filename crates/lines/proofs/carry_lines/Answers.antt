@@ -137,8 +137,11 @@ returns-in_default-carry_out c =
     told-ends c.args.last c.args.input.now c.loop-out.read c.loop-out.written c.loop-out.out _ _ _ (next-ready c.args.last c.args.input.now c.loop-out.read _ _ _ c.next_line.ensures c.in-Line.is) c.loop-out-test.true _ _ _ c.carry_out.ensures c.in_default-carry_out.is ∙ c.loop-out.invariant.2
 
 pub overflow_add-read : goal.overflow_add-read
-overflow_add-read c = omega (arith, (let it : c.loop-out.read + c.in-Line.size < 18446744073709551616 = let r = (let it : Reach c.args.input.now c.loop-out.read c.in-Line.bytes c.in-Line.size = ready-reach c.args.last c.args.input.now c.loop-out.read _ _ c.loop-out.invariant.0
-    (next-ready c.args.last c.args.input.now c.loop-out.read _ _ _ c.next_line.ensures c.in-Line.is) in it) in omega arith in it))
+overflow_add-read c = omega (
+  arith,
+  (let it : c.loop-out.read + c.in-Line.size < 18446744073709551616 = let r = (let it : Reach c.args.input.now c.loop-out.read c.in-Line.bytes c.in-Line.size = ready-reach c.args.last c.args.input.now c.loop-out.read _ _ c.loop-out.invariant.0
+      (next-ready c.args.last c.args.input.now c.loop-out.read _ _ _ c.next_line.ensures c.in-Line.is) in it) in omega arith in it),
+)
 
 pub overflow_add-written : goal.overflow_add-written
 overflow_add-written c =

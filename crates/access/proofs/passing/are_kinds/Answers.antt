@@ -23,13 +23,12 @@ returns-then-not-is_kind c =
     (rw c.argument_at.ensures at (sym c.is_kind.ensures ∙ c.if-not-is_kind.true))) ∙ c.loop-i.invariant.2
 
 pub loop-i-preserved : goal.loop-i-preserved
-loop-i-preserved c =
-    (
-      omega arith,
-      c.loop-i.invariant.1,
-      sym (kinds-on _ _ _ _ _ (rw c.loop-i.invariant.1 at c.loop-i-test.true) _ _ (rw (c.from16.ensures.0, c.from8.ensures.0) at c.operand-v.ensures)
-          (rw c.argument_at.ensures at (sym c.is_kind.ensures ∙ c.if-not-is_kind.false))) ∙ c.loop-i.invariant.2,
-    )
+loop-i-preserved c = (
+  omega arith,
+  c.loop-i.invariant.1,
+  sym (kinds-on _ _ _ _ _ (rw c.loop-i.invariant.1 at c.loop-i-test.true) _ _ (rw (c.from16.ensures.0, c.from8.ensures.0) at c.operand-v.ensures)
+      (rw c.argument_at.ensures at (sym c.is_kind.ensures ∙ c.if-not-is_kind.false))) ∙ c.loop-i.invariant.2,
+)
 
 pub returns : goal.returns
 unfolding need
