@@ -1,6 +1,5 @@
 -- A run has a count.
 use Rattle.definition.specs.Answers.{count_of}
-use borrow.Author.Rules.{rules}
 use Rattle.host.proofs.count_of.Goals as goal
 
 pub returns-in-Accepted : goal.returns-in-Accepted

@@ -1,6 +1,5 @@
 -- A reply by its kind.
 use Rattle.host.specs.Answers.{kind_of}
-use borrow.Author.Rules.{rules}
 use Rattle.host.proofs.kind_of.Goals as goal
 
 pub returns-in-Accepted : goal.returns-in-Accepted

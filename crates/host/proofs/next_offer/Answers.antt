@@ -1,7 +1,6 @@
 -- By whether there is one.
 use native.Mathlib.Omega.{arith}
 use Rattle.host.specs.Findings.{digit-there, digit-past}
-use borrow.Author.Rules.{rules}
 use Rattle.host.proofs.next_offer.Goals as goal
 
 pub returns-then-i-wide32 : goal.returns-then-i-wide32

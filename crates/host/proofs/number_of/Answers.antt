@@ -1,6 +1,5 @@
 -- A run is accepted.
 use Rattle.host.specs.Answers.{number_given}
-use borrow.Author.Rules.{rules}
 use Rattle.host.proofs.number_of.Goals as goal
 
 pub returns-in-Accepted : goal.returns-in-Accepted

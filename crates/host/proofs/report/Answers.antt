@@ -1,7 +1,6 @@
 -- Six cells, one after another.
 use mathlib.Core.Path.{◌∙◌}
 use Rattle.host.specs.Answers.{answer_cells, cells-written, reply-number}
-use borrow.Author.Rules.{rules}
 use Rattle.host.proofs.report.Goals as goal
 
 pub shape_of-answer : goal.shape_of-answer

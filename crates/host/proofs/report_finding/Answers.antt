@@ -1,7 +1,6 @@
 -- By its cases.
 use mathlib.Core.Path.{refl}
 use Rattle.host.specs.Findings.{told-found, told_none, told-refused}
-use borrow.Author.Rules.{rules}
 use Rattle.host.proofs.report_finding.Goals as goal
 
 pub returns-in-Found : goal.returns-in-Found

@@ -1,7 +1,6 @@
 -- Six cells, one after another.
 use mathlib.Core.Path.{◌∙◌}
 use Rattle.host.specs.Answers.{cells-written}
-use borrow.Author.Rules.{rules}
 use Rattle.host.proofs.report_kind.Goals as goal
 
 pub shape_of-answer : goal.shape_of-answer

@@ -1,11 +1,7 @@
 -- The loop: i cells are written.
 use native.Mathlib.Omega.{arith}
-use mathlib.Core.Path.{◌≡◌, refl, ◌∙◌}
-use Prim.Native.Nat.{◌-◌}
-use lib.ListN.{length}
-use Rattle.definition.specs.Numbers.{offer_limit}
-use Rattle.host.specs.Findings.{Writing, writing_start, writing_more, writing-end}
-use borrow.Author.Rules.{rules}
+use mathlib.Core.Path.{refl, ◌∙◌}
+use Rattle.host.specs.Findings.{writing_start, writing_more, writing-end}
 use Rattle.host.proofs.report_order.Goals as goal
 
 pub loop-i-init : goal.loop-i-init

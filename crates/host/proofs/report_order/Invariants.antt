@@ -1,10 +1,8 @@
-use native.Mathlib.Omega.{arith}
-use mathlib.Core.Path.{◌≡◌, refl, ◌∙◌}
+use mathlib.Core.Path.{◌≡◌}
 use Prim.Native.Nat.{◌-◌}
 use lib.ListN.{length}
 use Rattle.definition.specs.Numbers.{offer_limit}
-use Rattle.host.specs.Findings.{Writing, writing_start, writing_more, writing-end}
-use borrow.Author.Rules.{rules}
+use Rattle.host.specs.Findings.{Writing}
 use Rattle.host.proofs.report_order.Given as goal
 
 abbrev pub invariant-loop-i : goal.invariant-loop-i

@@ -1,6 +1,5 @@
 -- A refusal as a reply has it, or a row of one of two kinds.
 use Rattle.host.specs.Rows.{told-denied, told-tied, told_below}
-use borrow.Author.Rules.{rules}
 use Rattle.host.proofs.report_row.Goals as goal
 
 pub returns-in-Denied : goal.returns-in-Denied

@@ -1,6 +1,5 @@
 -- The changeover, and its reply reported.
 use Rattle.host.specs.Answers.{changed-over}
-use borrow.Author.Rules.{rules}
 use Rattle.host.proofs.tariff_change_over.Goals as goal
 
 pub returns : goal.returns

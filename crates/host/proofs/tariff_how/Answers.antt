@@ -1,6 +1,5 @@
 -- The search, and its answer reported.
 use Rattle.host.specs.Findings.{searched-on}
-use borrow.Author.Rules.{rules}
 use Rattle.host.proofs.tariff_how.Goals as goal
 
 pub returns : goal.returns

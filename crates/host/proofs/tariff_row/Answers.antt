@@ -1,6 +1,5 @@
 -- The row, told.
 use Rattle.host.specs.Rows.{told_same}
-use borrow.Author.Rules.{rules}
 use Rattle.host.proofs.tariff_row.Goals as goal
 
 pub returns : goal.returns

@@ -1,6 +1,5 @@
 -- The call, and its reply reported.
 use Rattle.host.specs.Answers.{called}
-use borrow.Author.Rules.{rules}
 use Rattle.host.proofs.tariff_sweep.Goals as goal
 
 pub returns : goal.returns

@@ -1,5 +1,4 @@
 -- The try, and its reply and count reported.
-use borrow.Author.Rules.{rules}
 use Rattle.host.specs.Answers.{tried-on}
 use Rattle.host.proofs.tariff_try_record.Goals as goal
 

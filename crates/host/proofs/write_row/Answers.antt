@@ -1,6 +1,5 @@
 -- Six cells, one after another.
 use Rattle.host.specs.Answers.{cells-written}
-use borrow.Author.Rules.{rules}
 use Rattle.host.proofs.write_row.Goals as goal
 
 pub returns : goal.returns
