@@ -1,3 +1,4 @@
+-- The loop: i cells are written.
 use mathlib.Core.Path.{◌≡◌}
 use Prim.Native.Nat.{◌-◌}
 use lib.ListN.{length}
