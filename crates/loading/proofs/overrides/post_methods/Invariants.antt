@@ -1,3 +1,4 @@
+-- Before method j is posted, what the methods from j on post is what is left; there is room for five ties a method.
 use mathlib.Core.Path.{◌≡◌}
 use Prim.Native.Nat.{◌+◌, ◌*◌, ◌-◌, ◌≤◌}
 use lib.ListN.{length}

@@ -1,3 +1,4 @@
+-- The loop: the offers from row i on are readable exactly if all are.
 use Rattle.definition.specs.Offers.{offers_from, offers_in}
 use Rattle.definition.specs.Lists.{is_some}
 use Prim.Native.Nat.{◌-◌, ◌≤◌}

@@ -1,3 +1,4 @@
+-- The loop: k loads are made, and those that are left lead from here to where all of them lead from the beginning.
 use mathlib.Core.Path.{◌≡◌}
 use Prim.Native.Nat.{◌-◌, ◌≤◌}
 use lib.ListN.{length}

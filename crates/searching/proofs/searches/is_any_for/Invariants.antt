@@ -1,3 +1,4 @@
+-- The loop: the first i offers aren't for the request.
 use mathlib.Core.Path.{◌≡◌}
 use Prim.Native.Nat.{◌-◌, ◌/◌, ◌≤◌}
 use lib.ListN.{length}

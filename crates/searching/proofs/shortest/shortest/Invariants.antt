@@ -1,3 +1,4 @@
+-- By rising n: no order of fewer loads works, and the tables show what they showed.
 use Prim.Native.Nat.{◌+◌, ◌-◌}
 use mathlib.Core.Path.{◌≡◌}
 use lib.ListN.{length}

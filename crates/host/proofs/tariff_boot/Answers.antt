@@ -1,0 +1,7 @@
+-- The call, and its reply reported.
+use Rattle.host.specs.Answers.{called}
+use Rattle.host.proofs.tariff_boot.Goals as goal
+
+pub returns : goal.returns
+returns c =
+    called _ _ _ _ _ _ _ _ c.boot-reply.ensures c.turn-turn.ensures c.report.ensures

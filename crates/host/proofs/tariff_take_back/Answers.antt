@@ -1,0 +1,7 @@
+-- The call, and its reply reported.
+use Rattle.host.specs.Answers.{called}
+use Rattle.host.proofs.tariff_take_back.Goals as goal
+
+pub returns : goal.returns
+returns c =
+    called _ _ _ _ _ _ _ _ c.take_back-reply.ensures c.turn-turn.ensures c.report.ensures
