@@ -112,7 +112,7 @@ pub fn getfield(
 ) -> Access
     ensures { Accessing counts.now classes.now kept.now cache.now objects.now frames.now top.base top.depth top.loader always (of ∷ []) (Instruction.Getfield class name of) result }
 {
-    let Found::At(e) = resolution::find(counts, cache, cells::from8(top.loader), class) else {
+    let Found::At(e) = resolution::find(counts, cache, u16::from(top.loader), class) else {
         return Access::Unresolved(Refusal::Wanted(top.loader, class));
     };
     let Found::At(s) = resolution::nearest_field(counts, classes, kept, cache, e, name, of) else {
@@ -141,7 +141,7 @@ pub fn putfield(
 ) -> Access
     ensures { Accessing counts.now classes.now kept.now cache.now objects.now frames.now top.base top.depth top.loader always (of ∷ []) (Instruction.Putfield class name of) result }
 {
-    let Found::At(e) = resolution::find(counts, cache, cells::from8(top.loader), class) else {
+    let Found::At(e) = resolution::find(counts, cache, u16::from(top.loader), class) else {
         return Access::Unresolved(Refusal::Wanted(top.loader, class));
     };
     let Found::At(s) = resolution::nearest_field(counts, classes, kept, cache, e, name, of) else {

@@ -23,7 +23,7 @@ pub fn new_object(
 ) -> Plan
     ensures { Making counts.now classes.now kept.now cache.now objects.now frames.now top.task top.base top.depth top.loader class free made result }
 {
-    let Found::At(e) = resolution::find(counts, cache, cells::from8(top.loader), class) else {
+    let Found::At(e) = resolution::find(counts, cache, u16::from(top.loader), class) else {
         return Plan::Refuse(Refusal::Wanted(top.loader, class));
     };
     if frames::is_share_used(top.task, made) {

@@ -56,7 +56,7 @@ fn call_method(
     ensures { Rest counts.now classes.now kept.now cache.now objects.now frames.now top.base top.depth frames_left (λ B os f fs i. call_method B os f fs i e s) result }
 {
     let list = s.arguments;
-    let n = cells::from16(cells::from8(cells::arguments::argument_count(list)));
+    let n = u32::from(cells::arguments::argument_count(list));
     if top.depth <= n {
         return instructions::refuse(WORD_STUCK);
     }
@@ -100,7 +100,7 @@ pub fn invokevirtual(
 ) -> Access
     ensures { Accessing counts.now classes.now kept.now cache.now objects.now frames.now top.base top.depth top.loader frame_room (signature_types s) (Instruction.Invokevirtual class s) result }
 {
-    let Found::At(e) = resolution::find(counts, cache, cells::from8(top.loader), class) else {
+    let Found::At(e) = resolution::find(counts, cache, u16::from(top.loader), class) else {
         return Access::Unresolved(Refusal::Wanted(top.loader, class));
     };
     let Selection::Selected(m, j) = resolution::select_method(counts, classes, kept, cache, e, s)

@@ -18,7 +18,7 @@ pub(crate) fn are_kinds(frames: &[u32], b: u32, k: u32, list: Arguments) -> bool
     let n = cells::arguments::argument_count(list);
     let mut i: u8 = 0;
     while i < n {
-        let v = frames::operand(frames, b, k + cells::from16(cells::from8(i)));
+        let v = frames::operand(frames, b, k + u32::from(i));
         if !instructions::is_kind(cells::arguments::argument_at(list, i), v) {
             return false;
         }

@@ -30,7 +30,7 @@ pub enum Call {
 fn lent(n: u32) -> usize
     ensures { (result ≤ list_limit) × Serves result n }
 {
-    let wide = cells::wide32(n);
+    let wide = n as usize;
     if wide < LIST_LIMIT { wide } else { LIST_LIMIT }
 }
 

@@ -7,7 +7,7 @@ ghost use Rattle.definition.specs.Classes.{types_of, arguments_of};
 ghost use Rattle.definition.specs.Instructions.{shorts_at};
 ghost use Rattle.cells.specs.Listed.{list_at};
 
-use crate::short_at;
+use crate::{at, short_at};
 use definition::Arguments;
 use definition::numbers::ARGUMENT_LIMIT;
 
@@ -29,53 +29,10 @@ pub fn argument_at(a: Arguments, i: u8) -> u16
 {
     match a {
         Arguments::NoArguments => 0,
-        Arguments::OneArgument(x) => one_at(i, x),
-        Arguments::TwoArguments(x, y) => two_at(i, x, y),
-        Arguments::ThreeArguments(x, y, z) => three_at(i, x, y, z),
-        Arguments::FourArguments(x, y, z, t) => four_at(i, x, y, z, t),
-    }
-}
-
-// Number i of one, two, three or four.
-fn one_at(i: u8, x: u16) -> u16
-    ensures { result ≡ get_or (x ∷ []) i 0 }
-{
-    match i {
-        0 => x,
-        _ => 0,
-    }
-}
-
-fn two_at(i: u8, x: u16, y: u16) -> u16
-    ensures { result ≡ get_or (x ∷ y ∷ []) i 0 }
-{
-    match i {
-        0 => x,
-        1 => y,
-        _ => 0,
-    }
-}
-
-fn three_at(i: u8, x: u16, y: u16, z: u16) -> u16
-    ensures { result ≡ get_or (x ∷ y ∷ z ∷ []) i 0 }
-{
-    match i {
-        0 => x,
-        1 => y,
-        2 => z,
-        _ => 0,
-    }
-}
-
-fn four_at(i: u8, x: u16, y: u16, z: u16, t: u16) -> u16
-    ensures { result ≡ get_or (x ∷ y ∷ z ∷ t ∷ []) i 0 }
-{
-    match i {
-        0 => x,
-        1 => y,
-        2 => z,
-        3 => t,
-        _ => 0,
+        Arguments::OneArgument(x) => at(&[x], usize::from(i)),
+        Arguments::TwoArguments(x, y) => at(&[x, y], usize::from(i)),
+        Arguments::ThreeArguments(x, y, z) => at(&[x, y, z], usize::from(i)),
+        Arguments::FourArguments(x, y, z, t) => at(&[x, y, z, t], usize::from(i)),
     }
 }
 
@@ -87,12 +44,10 @@ pub fn same_arguments(a: Arguments, b: Arguments) -> bool
     if argument_count(b) != n {
         return false;
     }
-    let mut i: u8 = 0;
-    while i < n {
+    for i in 0..n {
         if argument_at(a, i) != argument_at(b, i) {
             return false;
         }
-        i += 1;
     }
     true
 }

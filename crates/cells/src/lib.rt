@@ -4,7 +4,7 @@
 pub mod arguments;
 
 ghost use Rattle.std.specs.Prelude.{◌≡◌, ◌+◌, ◌*◌, ◌<◌, get_or, set};
-ghost use Rattle.definition.specs.Numbers.{byte_range, short_range, int_range};
+ghost use Rattle.definition.specs.Numbers.{byte_range};
 ghost use Rattle.definition.specs.Instructions.{short_at};
 ghost use Rattle.definition.specs.Answers.{signed, less};
 ghost use Rattle.definition.specs.Tables.{put_three};
@@ -12,74 +12,54 @@ ghost use Rattle.cells.specs.Held.{Held};
 
 use definition::numbers::{BYTE_RANGE, ROW_CELLS, SIGN_BIT};
 
-// Numbers widened: sums and products of these do not wrap.
-pub fn wide8(x: u8) -> usize
-    ensures { (result ≡ x) × (result < byte_range) }
-{
-    x as usize
+// What a table has in its cells: unsigned numbers, of which a table that has no such cell gives 0.
+pub trait Cell: Copy {
+    ghost missing: { Self };
+
+    fn zero() -> Self
+        ensures { result ≡ missing };
 }
 
-pub fn wide16(x: u16) -> usize
-    ensures { (result ≡ x) × (result < short_range) }
-{
-    x as usize
+impl Cell for u8 {
+    ghost missing = { 0 };
+
+    fn zero() -> u8 {
+        0
+    }
 }
 
-pub fn wide32(x: u32) -> usize
-    ensures { (result ≡ x) × (result < int_range) }
-{
-    x as usize
+impl Cell for u16 {
+    ghost missing = { 0 };
+
+    fn zero() -> u16 {
+        0
+    }
 }
 
-pub fn from8(x: u8) -> u16
-    ensures { (result ≡ x) × (result < byte_range) }
-{
-    x as u16
-}
+impl Cell for u32 {
+    ghost missing = { 0 };
 
-pub fn from16(x: u16) -> u32
-    ensures { (result ≡ x) × (result < short_range) }
-{
-    x as u32
+    fn zero() -> u32 {
+        0
+    }
 }
 
 // Whether 32 bits, read as signed, are less than others.
 pub fn is_less(a: u32, b: u32) -> bool
     ensures { result ≡ less (signed a) (signed b) }
 {
-    if a < SIGN_BIT {
-        if b < SIGN_BIT {
-            return a < b;
-        }
-        return false;
-    }
-    if b < SIGN_BIT {
-        return true;
-    }
-    a < b
+    a.cast_signed() < b.cast_signed()
 }
 
 // A cell, 0 past the end.
-pub fn at8(t: &[u8], i: usize) -> u8
-    ensures { result ≡ get_or t.now i 0 }
+pub fn at<T: Cell>(t: &[T], i: usize) -> T
+    ensures { result ≡ get_or t.now i T.missing }
 {
-    if i < t.len() { t[i] } else { 0 }
-}
-
-pub fn at16(t: &[u16], i: usize) -> u16
-    ensures { result ≡ get_or t.now i 0 }
-{
-    if i < t.len() { t[i] } else { 0 }
-}
-
-pub fn at32(t: &[u32], i: usize) -> u32
-    ensures { result ≡ get_or t.now i 0 }
-{
-    if i < t.len() { t[i] } else { 0 }
+    if i < t.len() { t[i] } else { T::zero() }
 }
 
 // How many of n cells from cell `first` on the table holds.
-pub fn held16(t: &[u16], first: usize, n: usize) -> usize
+pub fn held(t: &[u16], first: usize, n: usize) -> usize
     ensures { Held t.now first n result }
 {
     if t.len() <= first {
@@ -90,23 +70,7 @@ pub fn held16(t: &[u16], first: usize, n: usize) -> usize
 }
 
 // A cell written, nothing past the end.
-pub fn put8(t: &mut [u8], i: usize, v: u8)
-    ensures { t.new ≡ set t.old i v }
-{
-    if i < t.len() {
-        t[i] = v;
-    }
-}
-
-pub fn put16(t: &mut [u16], i: usize, v: u16)
-    ensures { t.new ≡ set t.old i v }
-{
-    if i < t.len() {
-        t[i] = v;
-    }
-}
-
-pub fn put32(t: &mut [u32], i: usize, v: u32)
+pub fn put<T: Cell>(t: &mut [T], i: usize, v: T)
     ensures { t.new ≡ set t.old i v }
 {
     if i < t.len() {
@@ -118,22 +82,22 @@ pub fn put32(t: &mut [u32], i: usize, v: u32)
 pub fn put_three(t: &mut [u16], i: u32, a: u16, b: u16, c: u16)
     ensures { t.new ≡ put_three t.old i a b c }
 {
-    let place = wide32(i) * ROW_CELLS;
-    put16(t, place, a);
-    put16(t, place + 1, b);
-    put16(t, place + 2, c);
+    let place = i as usize * ROW_CELLS;
+    put(t, place, a);
+    put(t, place + 1, b);
+    put(t, place + 2, c);
 }
 
 // The byte after place i; the place may be the last that a slice can have.
-fn next8(t: &[u8], i: usize) -> u8
+fn next(t: &[u8], i: usize) -> u8
     ensures { result ≡ get_or t.now (i + 1) 0 }
 {
-    if i < t.len() { at8(t, i + 1) } else { 0 }
+    if i < t.len() { at(t, i + 1) } else { 0 }
 }
 
 // 16 bits, big-endian, at a place.
 pub fn short_at(t: &[u8], i: usize) -> u16
     ensures { result ≡ short_at t.now i }
 {
-    from8(at8(t, i)) * BYTE_RANGE + from8(next8(t, i))
+    u16::from(at(t, i)) * BYTE_RANGE + u16::from(next(t, i))
 }

@@ -4,7 +4,7 @@ ghost use Rattle.definition.specs.Numbers.{tie_limit, counts_length};
 ghost use Rattle.definition.specs.Lists.{rows};
 ghost use Rattle.changing.specs.Cells.{cell_of, Blank};
 
-use cells::at16;
+use cells::at;
 use definition::numbers::{LOADS_CELL, OWNERS_CELL, SUBTYPE_NUMBERS_CELL, TIE_NUMBERS_CELL};
 
 // The owner of an object that is the quote's: 1 and the task, which is 0.
@@ -17,7 +17,7 @@ fn cell_of(old_counts: &[u16], n: u16, i: usize) -> u16
 {
     if i < TIE_NUMBERS_CELL {
         if i < OWNERS_CELL {
-            return at16(old_counts, i);
+            return at(old_counts, i);
         }
         return QUOTE_OWNS;
     }

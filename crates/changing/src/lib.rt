@@ -37,7 +37,7 @@ fn judge(
     if old_counts.len() != OWNERS_CELL {
         return false;
     }
-    let n = cells::at16(old_counts, COUNT_TIES);
+    let n = cells::at(old_counts, COUNT_TIES);
     if TIE_LIMIT < n {
         return false;
     }

@@ -9,7 +9,7 @@ use crate::FieldFound;
 pub fn version(bytes: &[u8]) -> u8
     ensures { result ≡ file_version bytes.now }
 {
-    cells::at8(bytes, 0)
+    cells::at(bytes, 0)
 }
 
 pub fn class_name(bytes: &[u8]) -> u16
@@ -27,13 +27,13 @@ pub fn super_name(bytes: &[u8]) -> u16
 pub fn field_count(bytes: &[u8]) -> u8
     ensures { result ≡ field_count bytes.now }
 {
-    cells::at8(bytes, 7)
+    cells::at(bytes, 7)
 }
 
 pub(crate) fn field_place(i: u8) -> usize
     ensures { (result ≡ field_place i) × (result ≤ 1028) }
 {
-    8 + 4 * cells::wide8(i)
+    8 + 4 * usize::from(i)
 }
 
 pub(crate) fn field_name(bytes: &[u8], i: u8) -> u16

@@ -15,48 +15,48 @@ pub fn method_maps<'a>(bytes: &'a [u8], place: u32) -> &'a [u8]
     if version(bytes) < VERSION_TWO {
         return &bytes[size..size];
     }
-    let end = code_place(bytes, place) + cells::wide16(code_length(bytes, place));
+    let end = code_place(bytes, place) + usize::from(code_length(bytes, place));
     &bytes[least(end, size)..size]
 }
 
 pub fn map_count(maps: &[u8]) -> u8
     ensures { result ≡ map_count maps.now }
 {
-    cells::at8(maps, 0)
+    cells::at(maps, 0)
 }
 
 pub fn map_offset(maps: &[u8], place: u32) -> u16
     ensures { result ≡ short_at maps.now place }
 {
-    cells::short_at(maps, cells::wide32(place))
+    cells::short_at(maps, place as usize)
 }
 
 // The type of local i.
 pub fn map_local(maps: &[u8], place: u32, i: u8) -> u16
     ensures { result ≡ type_at maps.now (place + 2) i }
 {
-    cells::short_at(maps, cells::wide32(place) + 2 + 2 * cells::wide8(i))
+    cells::short_at(maps, place as usize + 2 + 2 * usize::from(i))
 }
 
 // How many operands there are.
 pub fn map_depth(maps: &[u8], place: u32) -> u8
     ensures { result ≡ map_depth maps.now place }
 {
-    cells::at8(maps, cells::wide32(place) + 18)
+    cells::at(maps, place as usize + 18)
 }
 
 // The type of operand i, from the lowest.
 pub fn map_operand(maps: &[u8], place: u32, i: u8) -> u16
     ensures { result ≡ type_at maps.now (place + 19) i }
 {
-    cells::short_at(maps, cells::wide32(place) + 19 + 2 * cells::wide8(i))
+    cells::short_at(maps, place as usize + 19 + 2 * usize::from(i))
 }
 
 // How many bytes the map takes.
 pub fn map_size(maps: &[u8], place: u32) -> u32
     ensures { (result ≡ 19 + 2 * map_depth maps.now place) × (result ≤ 529) }
 {
-    19 + 2 * cells::from16(cells::from8(map_depth(maps, place)))
+    19 + 2 * u32::from(map_depth(maps, place))
 }
 
 // The place after the last map.

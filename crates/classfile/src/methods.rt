@@ -17,7 +17,7 @@ use definition::numbers::VERSION_TWO;
 pub fn method_count(bytes: &[u8]) -> u8
     ensures { result ≡ method_count bytes.now }
 {
-    cells::at8(bytes, field_place(field_count(bytes)))
+    cells::at(bytes, field_place(field_count(bytes)))
 }
 
 pub(crate) fn code_length(bytes: &[u8], place: u32) -> u16
@@ -45,7 +45,7 @@ pub fn code<'a>(bytes: &'a [u8], place: u32) -> &'a [u8]
 {
     let size = bytes.len();
     let start = least(code_place(bytes, place), size);
-    let end = least(start + cells::wide16(code_length(bytes, place)), size);
+    let end = least(start + usize::from(code_length(bytes, place)), size);
     &bytes[start..end]
 }
 
@@ -53,8 +53,8 @@ pub fn code<'a>(bytes: &'a [u8], place: u32) -> &'a [u8]
 pub fn part<'a>(kept: &'a [u8], start: u16, size: u16) -> &'a [u8]
     ensures { result.now ≡ part_of kept.now start size }
 {
-    let from = cells::wide16(start);
-    let end = from + cells::wide16(size);
+    let from = usize::from(start);
+    let end = from + usize::from(size);
     if end <= kept.len() {
         &kept[from..end]
     } else {
@@ -66,7 +66,7 @@ pub fn part<'a>(kept: &'a [u8], start: u16, size: u16) -> &'a [u8]
 pub(crate) fn first_place(bytes: &[u8]) -> u32
     ensures { Placed bytes.now 0 result }
 {
-    cells::from16(9 + 4 * cells::from8(field_count(bytes)))
+    u32::from(9 + 4 * u16::from(field_count(bytes)))
 }
 
 // The place after the record that begins at `place`, in version 1: eight bytes, of which the last two are the code's length, and the code.
@@ -74,7 +74,7 @@ fn next_first(bytes: &[u8], place: u32) -> u32
     requires { (file_version bytes.now < version_two) × (place ≤ 4000000000) }
     ensures { (result ≡ next_place bytes.now place) × (result ≤ place + 200948) }
 {
-    place + 8 + cells::from16(cells::short_at(bytes, cells::wide32(place) + 6))
+    place + 8 + u32::from(cells::short_at(bytes, place as usize + 6))
 }
 
 // The place after the record that begins at `place`.
@@ -93,9 +93,9 @@ fn next_later(bytes: &[u8], place: u32) -> u32
     requires { place ≤ 4000000000 }
     ensures { (result ≡ next_place bytes.now place) × (result ≤ place + 200948) }
 {
-    let start = place + 6 + cells::from16(arguments_size(bytes, place));
-    let length = cells::short_at(bytes, cells::wide32(start) - 2);
-    start + cells::from16(length) + maps_size(bytes, place)
+    let start = place + 6 + u32::from(arguments_size(bytes, place));
+    let length = cells::short_at(bytes, start as usize - 2);
+    start + u32::from(length) + maps_size(bytes, place)
 }
 
 // The place of the record of method j, in version 1: the records before it are passed one by one.

@@ -27,7 +27,7 @@ fn is_sized(bytes: &[u8]) -> bool
     if FILE_LIMIT < size {
         return false;
     }
-    if size < cells::wide32(first_place(bytes)) {
+    if size < first_place(bytes) as usize {
         return false;
     }
     if version(bytes) < VERSION_ONE {
@@ -36,7 +36,7 @@ fn is_sized(bytes: &[u8]) -> bool
     if VERSION_THREE < version(bytes) {
         return false;
     }
-    cells::wide16(cells::short_at(bytes, 1)) + 3 == size
+    usize::from(cells::short_at(bytes, 1)) + 3 == size
 }
 
 fn is_titled(bytes: &[u8]) -> bool
@@ -92,7 +92,7 @@ fn is_one_named(bytes: &[u8], place: u32) -> bool
     requires { file_version bytes.now < version_three }
     ensures { result ≡ named_method bytes.now place }
 {
-    let start = cells::wide32(place);
+    let start = place as usize;
     if cells::short_at(bytes, start) < 1 {
         return false;
     }
@@ -121,7 +121,7 @@ fn is_coded_method(bytes: &[u8], place: u32) -> bool
     if CODE_LIMIT < length {
         return false;
     }
-    code_place(bytes, place) + cells::wide16(length) <= bytes.len()
+    code_place(bytes, place) + usize::from(length) <= bytes.len()
 }
 
 // No operand type of the map at that place is 0.
@@ -142,13 +142,13 @@ fn are_operands_set(maps: &[u8], place: u32) -> bool
 fn is_whole_map(maps: &[u8], low: u32, place: u32) -> bool
     ensures { result ≡ whole_map maps.now low place }
 {
-    if cells::from16(map_offset(maps, place)) < low {
+    if u32::from(map_offset(maps, place)) < low {
         return false;
     }
-    if OPERAND_LIMIT < cells::from16(cells::from8(map_depth(maps, place))) {
+    if OPERAND_LIMIT < u32::from(map_depth(maps, place)) {
         return false;
     }
-    if maps.len() < cells::wide32(place) + cells::wide32(map_size(maps, place)) {
+    if maps.len() < place as usize + map_size(maps, place) as usize {
         return false;
     }
     are_operands_set(maps, place)
@@ -169,7 +169,7 @@ fn are_maps_whole(maps: &[u8]) -> bool
         if !is_whole_map(maps, low, place) {
             return false;
         }
-        low = cells::from16(map_offset(maps, place)) + 1;
+        low = u32::from(map_offset(maps, place)) + 1;
         place += map_size(maps, place);
         i += 1;
     }
@@ -215,7 +215,7 @@ fn are_methods_whole(bytes: &[u8]) -> bool
         place = next_place(bytes, place);
         j += 1;
     }
-    cells::wide32(place) == bytes.len()
+    place as usize == bytes.len()
 }
 
 // Two fields of one name.

@@ -12,14 +12,14 @@ use definition::{Arguments, Signature};
 fn method_name(bytes: &[u8], place: u32) -> u16
     ensures { result ≡ (method_at bytes.now place).signature.name }
 {
-    cells::short_at(bytes, cells::wide32(place))
+    cells::short_at(bytes, place as usize)
 }
 
 // How many arguments a method of version 3 or later says it has.
 pub(crate) fn argument_number(bytes: &[u8], place: u32) -> u8
     ensures { result ≡ argument_number bytes.now place }
 {
-    cells::at8(bytes, cells::wide32(place) + 2)
+    cells::at(bytes, place as usize + 2)
 }
 
 // How many bytes the arguments take: one type before version 3, from there on a byte with their count and as many types.
@@ -29,21 +29,21 @@ pub(crate) fn arguments_size(bytes: &[u8], place: u32) -> u16
     if version(bytes) < VERSION_THREE {
         return 2;
     }
-    1 + 2 * cells::from8(argument_number(bytes, place))
+    1 + 2 * u16::from(argument_number(bytes, place))
 }
 
 // The place of the result type, behind the name and the arguments.
 pub(crate) fn result_place(bytes: &[u8], place: u32) -> usize
     ensures { (result ≡ result_place bytes.now place) × (result ≤ place + 513) }
 {
-    cells::wide32(place) + 2 + cells::wide16(arguments_size(bytes, place))
+    place as usize + 2 + usize::from(arguments_size(bytes, place))
 }
 
 // A count above four reads as no arguments at all.
 fn method_arguments(bytes: &[u8], place: u32) -> Arguments
     ensures { result ≡ arguments_at bytes.now place }
 {
-    let start = cells::wide32(place) + 2;
+    let start = place as usize + 2;
     if version(bytes) < VERSION_THREE {
         return Arguments::OneArgument(cells::short_at(bytes, start));
     }
@@ -61,7 +61,7 @@ fn one_signature(bytes: &[u8], place: u32) -> Signature
     requires { file_version bytes.now < version_three }
     ensures { result ≡ (method_at bytes.now place).signature }
 {
-    let start = cells::wide32(place);
+    let start = place as usize;
     Signature {
         name: cells::short_at(bytes, start),
         arguments: Arguments::OneArgument(cells::short_at(bytes, start + 2)),

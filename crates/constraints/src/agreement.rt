@@ -13,7 +13,7 @@ use crate::joining::join;
 use crate::looking::{beside, first_turn, look, next_turn, request_at};
 use crate::numbering::{PLACE_LIMIT, at_most, list_classes, number_nodes, number_places};
 use crate::pairs::{Found, is_pair, next_met, pair_at};
-use cells::{at16, wide16};
+use cells::at;
 use definition::Check;
 use definition::numbers::{BYTE_RANGE, CACHE_LIMIT, ROW_CELLS};
 
@@ -125,10 +125,10 @@ fn tell(cache: &[u16], found: Found) -> Check
     match found {
         Found::NoPair => Check::Agreed,
         Found::Pair(a, b) => Check::Breaking(
-            at16(cache, a * ROW_CELLS),
-            at16(cache, a * ROW_CELLS + 1),
-            at16(cache, b * ROW_CELLS),
-            at16(cache, b * ROW_CELLS + 1),
+            at(cache, a * ROW_CELLS),
+            at(cache, a * ROW_CELLS + 1),
+            at(cache, b * ROW_CELLS),
+            at(cache, b * ROW_CELLS + 1),
         ),
     }
 }
@@ -191,7 +191,7 @@ pub fn check(
             &classes,
             cached,
             noted,
-            wide16(newcomer),
+            usize::from(newcomer),
             &mut nexts,
             &mut nodes,
         ),

@@ -14,7 +14,7 @@ use crate::layers::{seed, spread};
 use crate::numbering::PLACE_LIMIT;
 use crate::order::comes_first;
 use crate::upward::mark_above;
-use cells::{at16, put16};
+use cells::{at, put};
 use definition::numbers::BYTE_RANGE;
 
 // No chain yet, as a size.
@@ -35,8 +35,8 @@ fn goes_before(
     let mut i = 0;
     while i < k {
         let way = place(ways, at);
-        let row = at16(labels, way);
-        let kept = at16(best, i);
+        let row = at(labels, way);
+        let kept = at(best, i);
         if comes_first(row, kept) {
             return true;
         }
@@ -58,7 +58,7 @@ fn write_trail(tos: &[u16], labels: &[u16], ways: &[u16], node: usize, k: usize,
     let mut i = 0;
     while i < k {
         let way = place(ways, at);
-        put16(best, i, at16(labels, way));
+        put(best, i, at(labels, way));
         at = place(tos, way);
         i += 1;
     }
@@ -77,7 +77,7 @@ fn consider(
     requires { Holds best.old size × (get_or dists.now node 0 ≤ place_limit + 1) }
     ensures { Holds best.new result × (held best.new result ≡ considered tos.now labels.now dists.now ways.now node (held best.old size)) }
 {
-    let dist = at16(dists, node);
+    let dist = at(dists, node);
     if dist == 0 {
         return size;
     }
@@ -86,11 +86,11 @@ fn consider(
         return size;
     }
     if size == k {
-        if !goes_before(tos, labels, ways, node, cells::wide16(k), best) {
+        if !goes_before(tos, labels, ways, node, usize::from(k), best) {
             return size;
         }
     }
-    write_trail(tos, labels, ways, node, cells::wide16(k), best);
+    write_trail(tos, labels, ways, node, usize::from(k), best);
     k
 }
 
@@ -112,7 +112,7 @@ fn consider_all(
     let mut kept = size;
     let mut q = 0;
     while q < cached {
-        if at16(classes, q) == c {
+        if at(classes, q) == c {
             kept = consider(tos, labels, dists, ways, q, best, kept);
         }
         q += 1;
@@ -156,8 +156,8 @@ pub(crate) fn search_class(
 fn was_met(met: &mut [u16], class: usize) -> bool
     ensures { (result ≡ eqb (get_or met.old class 0) 1) × (met.new ≡ set met.old class 1) }
 {
-    let before = at16(met, class) == 1;
-    put16(met, class, 1);
+    let before = at(met, class) == 1;
+    put(met, class, 1);
     before
 }
 
@@ -185,8 +185,8 @@ pub(crate) fn search_all(
     let mut kept = size;
     let mut p = 0;
     while p < cached {
-        let class = at16(classes, p);
-        if !was_met(&mut met, cells::wide16(class)) {
+        let class = at(classes, p);
+        if !was_met(&mut met, usize::from(class)) {
             let stamp = (p + 1) as u16;
             mark_above(supers, classes, p, stamp, &mut aboves);
             kept = search_class(

@@ -4,7 +4,7 @@ ghost use Rattle.constraints.specs.Nodes.{place_limit};
 ghost use Rattle.constraints.specs.Groups.{label_in, GroupsOf};
 
 use crate::numbering::{PLACE_LIMIT, number_nodes};
-use cells::{at16, from16, wide16};
+use cells::at;
 
 // A group that is lent is a label behind all places.
 const LABELS: u32 = PLACE_LIMIT as u32;
@@ -29,9 +29,9 @@ fn label_nodes(nodes: &[u16], ones: usize, tied: usize, beside: &[u16], labels: 
     let mut i = tied;
     while 0 < i {
         i -= 1;
-        let label = LABELS + from16(at16(beside, i));
-        let one = wide16(nodes[ones + i]);
-        let two = wide16(nodes[ones + tied + i]);
+        let label = LABELS + u32::from(at(beside, i));
+        let one = usize::from(nodes[ones + i]);
+        let two = usize::from(nodes[ones + tied + i]);
         labels[one] = label;
         labels[two] = label;
     }
@@ -44,7 +44,7 @@ fn label_places(nodes: &[u16], n: usize, labels: &mut [u32])
 {
     let mut p = 0;
     while p < n {
-        let node = wide16(nodes[p]);
+        let node = usize::from(nodes[p]);
         labels[p] = labels[node];
         p += 1;
     }

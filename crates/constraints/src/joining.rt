@@ -5,13 +5,13 @@ ghost use Rattle.constraints.specs.Joining.{Joined};
 ghost use Rattle.constraints.specs.Search.{start_of};
 ghost use Rattle.definition.specs.Numbers.{short_range};
 
-use cells::{at16, wide16};
+use cells::at;
 
 // An element, 0 past the end.
 pub(crate) fn place(t: &[u16], i: usize) -> usize
     ensures { (result ≡ get_or t.now i 0) × (result < short_range) }
 {
-    wide16(at16(t, i))
+    usize::from(at(t, i))
 }
 
 // Joins place e to the last before it with the same key.

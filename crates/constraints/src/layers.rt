@@ -5,7 +5,7 @@ ghost use Rattle.constraints.specs.Walks.{found, Sized, look, looks, Those, Join
 
 use crate::joining::place;
 use crate::order::comes_first;
-use cells::{at16, put16};
+use cells::{at, put};
 
 // A look at a link that leads to a node of the layer before. Answers how many nodes are queued.
 fn look_at(
@@ -22,16 +22,16 @@ fn look_at(
     ensures { found dists.new ways.new queue.new result ≡ look froms.now labels.now layer e (found dists.old ways.old queue.old tail) }
 {
     let a = place(froms, e);
-    let dist = at16(dists, a);
+    let dist = at(dists, a);
     if dist == 0 {
-        put16(dists, a, layer);
-        put16(ways, a, e as u16);
-        put16(queue, tail, a as u16);
+        put(dists, a, layer);
+        put(ways, a, e as u16);
+        put(queue, tail, a as u16);
         return tail + 1;
     }
     if dist == layer {
-        if comes_first(at16(labels, e), at16(labels, place(ways, a))) {
-            put16(ways, a, e as u16);
+        if comes_first(at(labels, e), at(labels, place(ways, a))) {
+            put(ways, a, e as u16);
         }
     }
     tail
@@ -149,7 +149,7 @@ fn is_bad(aboves: &[u16], stamp: u16, only: bool, c: u16, class: u16) -> bool
     if only {
         return true;
     }
-    at16(aboves, cells::wide16(class)) != stamp
+    at(aboves, usize::from(class)) != stamp
 }
 
 // Cached request q is found, at distance 0, and queued, if its class is bad for class c. Answers how many are queued.
@@ -167,11 +167,11 @@ fn seed_one(
     requires { (q < place_limit) × (tail ≤ place_limit) }
     ensures { (ways : List ℕ) → found dists.new ways queue.new result ≡ seed_one (bad_in only aboves.now stamp c (get_or classes.now q 0)) q (found dists.old ways queue.old tail) }
 {
-    if !is_bad(aboves, stamp, only, c, at16(classes, q)) {
+    if !is_bad(aboves, stamp, only, c, at(classes, q)) {
         return tail;
     }
-    put16(dists, q, 1);
-    put16(queue, tail, q as u16);
+    put(dists, q, 1);
+    put(queue, tail, q as u16);
     tail + 1
 }
 

@@ -3,7 +3,7 @@ ghost use Rattle.std.specs.Prelude.{◌≡◌, ◌+◌, ◌≤◌, length};
 ghost use Rattle.definition.specs.Numbers.{cache_limit, tie_limit, subtype_limit, short_range};
 ghost use Rattle.constraints.specs.Linking.{link_limit, Copied, Linked, Labelled};
 
-use cells::{at16, put16};
+use cells::{at, put};
 use definition::numbers::{SUBTYPE_LIMIT, SUBTYPE_NUMBERS_CELL, TIE_LIMIT, TIE_NUMBERS_CELL};
 
 // The most links there are: each tie forth and back, each subtype constraint.
@@ -16,7 +16,7 @@ fn copy_cells(source: &[u16], from: usize, n: usize, target: &mut [u16], at: usi
 {
     let mut i = 0;
     while i < n {
-        put16(target, at + i, at16(source, from + i));
+        put(target, at + i, at(source, from + i));
         i += 1;
     }
 }

@@ -14,7 +14,7 @@ use crate::numbering::PLACE_LIMIT;
 use crate::pairs::Meets;
 use crate::search::search;
 use crate::upward::mark_above;
-use cells::at16;
+use cells::at;
 
 // The places from one to another, and who of them is looked at.
 #[derive(Clone, Copy)]
@@ -60,7 +60,7 @@ pub(crate) fn next_turn(heads: &[u16], cached: usize, noted: usize, turn: usize)
     }
     let mut a = turn - 1;
     while a < cached {
-        if at16(heads, a) != 0 {
+        if at(heads, a) != 0 {
             return a + 2;
         }
         a += 1;
@@ -220,7 +220,7 @@ fn look_first(
             who: Meets::Everyone,
         };
     }
-    if at16(heads, group) == 0 {
+    if at(heads, group) == 0 {
         let highs = cached + noted;
         if !is_end(groups, highs, noted, group) {
             return Span {

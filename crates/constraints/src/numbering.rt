@@ -7,7 +7,7 @@ ghost use Rattle.constraints.specs.Nodes.{request_of, request_in, Numbered, AllN
 ghost use Rattle.constraints.specs.Joining.{Last};
 
 use crate::joining::enter;
-use cells::{at16, from16, wide16, wide32};
+use cells::at;
 use definition::numbers::{CACHE_LIMIT, ROW_CELLS, SHORT_RANGE, SUBTYPE_LIMIT, TIE_LIMIT};
 
 // The largest count of rows of a table.
@@ -26,7 +26,7 @@ pub(crate) fn at_most(count: u16) -> usize
     ensures { (result ≡ at_most cache_limit count) × (result ≤ cache_limit) }
 {
     if count <= CACHE_LIMIT {
-        wide16(count)
+        usize::from(count)
     } else {
         ROW_LIMIT
     }
@@ -36,7 +36,7 @@ pub(crate) fn at_most(count: u16) -> usize
 fn request_number(loader: u16, name: u16) -> u32
     ensures { request_of result ≡ at loader name }
 {
-    from16(loader) * SHORT_RANGE + from16(name)
+    u32::from(loader) * SHORT_RANGE + u32::from(name)
 }
 
 // The number of row i of a table, whose loader and name stand in these cells of it.
@@ -48,7 +48,7 @@ fn row_number(t: &[u16], loader: usize, name: usize, i: usize) -> u32
     if row + 2 < t.len() {
         return request_number(t[row + loader], t[row + name]);
     }
-    request_number(at16(t, row + loader), at16(t, row + name))
+    request_number(at(t, row + loader), at(t, row + name))
 }
 
 // The numbers of the first `count` rows of a table, written from a place on.
@@ -98,7 +98,7 @@ pub(crate) fn number_places(
 fn bucket(number: u32) -> usize
     ensures { (result ≡ bucket_of number) × (result < bucket_limit) }
 {
-    wide32((number / SHORT_RANGE * 633 + number % SHORT_RANGE) % BUCKET_LIMIT)
+    ((number / SHORT_RANGE * 633 + number % SHORT_RANGE) % BUCKET_LIMIT) as usize
 }
 
 // The node of place p: that of the last place before it with the same number, or p itself. `last` is one more than the last place before
@@ -114,7 +114,7 @@ fn node_of(numbers: &[u32], nodes: &[u16], nexts: &[u16], last: usize, p: usize)
         if numbers[q] == number {
             return nodes[q];
         }
-        follow = wide16(nexts[q]);
+        follow = usize::from(nexts[q]);
     }
     p as u16
 }
@@ -128,7 +128,7 @@ pub(crate) fn number_nodes(numbers: &[u32], n: usize, nodes: &mut [u16], nexts: 
     let mut p = 0;
     while p < n {
         let key = bucket(numbers[p]);
-        let node = node_of(numbers, nodes, nexts, wide16(heads[key]), p);
+        let node = node_of(numbers, nodes, nexts, usize::from(heads[key]), p);
         nodes[p] = node;
         enter(key, p, &mut heads, nexts);
         p += 1;
@@ -140,7 +140,7 @@ fn class_at(cache: &[u16], row: usize) -> u16
     requires { row < place_limit }
     ensures { result ≡ get_or cache.now (row * row_cells + 2) 0 }
 {
-    at16(cache, row * ROW_CELLS + 2)
+    at(cache, row * ROW_CELLS + 2)
 }
 
 // What each cached request means: the class of the first row with its node.
@@ -150,7 +150,7 @@ pub(crate) fn list_classes(cache: &[u16], nodes: &[u16], cached: usize, classes:
 {
     let mut p = 0;
     while p < cached {
-        classes[p] = class_at(cache, wide16(nodes[p]));
+        classes[p] = class_at(cache, usize::from(nodes[p]));
         p += 1;
     }
 }

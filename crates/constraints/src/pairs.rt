@@ -6,7 +6,7 @@ ghost use Rattle.constraints.specs.Pairs.{out_marked, in_marked, Judged, is_pair
 
 use crate::joining::place;
 use crate::upward::is_below;
-use cells::at16;
+use cells::at;
 
 // What is found: no pair that breaks agreement, or one, from a place to another.
 #[derive(Clone, Copy)]
@@ -45,14 +45,14 @@ fn out_agrees(
 ) -> bool
     ensures { result ≡ out_marked outs.now aboves.now classes.now stamp group a b }
 {
-    if at16(outs, group) != stamp {
+    if at(outs, group) != stamp {
         return true;
     }
     let class = place(classes, b);
     if place(classes, a) == class {
         return true;
     }
-    at16(aboves, class) == stamp
+    at(aboves, class) == stamp
 }
 
 // Request b, of that group, has a's class or one below it, if it leads to a: `ins` has the groups that lead to a.
@@ -67,7 +67,7 @@ fn in_agrees(
 ) -> bool
     ensures { result ≡ in_marked (super_in supers.now) ins.now classes.now stamp group a b }
 {
-    if at16(ins, group) != stamp {
+    if at(ins, group) != stamp {
         return true;
     }
     is_below(supers, place(classes, b), place(classes, a))
@@ -89,7 +89,7 @@ pub(crate) fn pair_at(
 {
     let group = place(groups, b);
     if place(groups, a) == group {
-        if at16(classes, a) == at16(classes, b) {
+        if at(classes, a) == at(classes, b) {
             return Found::NoPair;
         }
         return Found::Pair(a, b);

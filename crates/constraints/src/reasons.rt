@@ -15,7 +15,7 @@ use crate::choosing::{NO_SIZE, search_all};
 use crate::linking::{LINK_LIMIT, label_links, link_nodes};
 use crate::numbering::{PLACE_LIMIT, at_most, list_classes, number_nodes, number_places};
 use crate::singles::first_alone;
-use cells::{at16, put16};
+use cells::{at, put};
 use definition::numbers::{CACHE_LIMIT, COUNT_CACHE, COUNT_SUBTYPES, COUNT_TIES};
 use rows::numbers_fit;
 
@@ -64,9 +64,9 @@ fn best_chain(
     requires { (numbers_fit counts.now ≡ true) × (length best.old ≡ place_limit) }
     ensures { Holds best.new result × (held best.new result ≡ reason_in supers.now counts.now cache.now ties.now subtypes.now) }
 {
-    let cached = at_most(at16(counts, COUNT_CACHE));
-    let tied = at_most(at16(counts, COUNT_TIES));
-    let noted = at_most(at16(counts, COUNT_SUBTYPES));
+    let cached = at_most(at(counts, COUNT_CACHE));
+    let tied = at_most(at(counts, COUNT_TIES));
+    let noted = at_most(at(counts, COUNT_SUBTYPES));
     let turned = tied + tied;
     let mut numbers = [0u32; PLACE_LIMIT];
     number_places(cache, cached, ties, tied, subtypes, noted, &mut numbers);
@@ -106,7 +106,7 @@ fn write_list(best: &[u16], size: usize, list: &mut [u16])
     let mut i = size;
     while 0 < i {
         i -= 1;
-        put16(list, i, at16(best, i));
+        put(list, i, at(best, i));
     }
 }
 
@@ -130,6 +130,6 @@ pub fn reason(
     if size == NO_SIZE {
         return 0;
     }
-    write_list(&best, cells::wide16(size), list);
+    write_list(&best, usize::from(size), list);
     size
 }

@@ -9,7 +9,7 @@ ghost use Rattle.constraints.specs.Choosing.{held, alone, OneSize, considered_al
 use crate::joining::place;
 use crate::order::comes_first;
 use crate::upward::is_below;
-use cells::{at16, put16};
+use cells::{at, put};
 
 // Class d is bad for class c.
 fn is_bad_for(supers: &[u8], only: bool, c: usize, d: usize) -> bool
@@ -67,13 +67,13 @@ fn consider_alone(
     if !breaks_alone(supers, classes, cached, froms, tos, only, e) {
         return size;
     }
-    let label = at16(labels, e);
+    let label = at(labels, e);
     if size == 1 {
-        if !comes_first(label, at16(best, 0)) {
+        if !comes_first(label, at(best, 0)) {
             return size;
         }
     }
-    put16(best, 0, label);
+    put(best, 0, label);
     1
 }
 

@@ -7,13 +7,13 @@ ghost use Rattle.definition.specs.Numbers.{byte_range, short_range};
 ghost use Rattle.definition.specs.Superclasses.{below};
 
 use crate::joining::place;
-use cells::{at8, put16, wide8};
+use cells::{at, put};
 
 // One more than the number of the class directly above a class, 0 if there is none.
 pub(crate) fn above(supers: &[u8], class: usize) -> usize
     ensures { (super_in supers.now class ≡ class_of result) × (result ≤ class) × (result < byte_range) }
 {
-    let up = wide8(at8(supers, class));
+    let up = usize::from(at(supers, class));
     if class < up { 0 } else { up }
 }
 
@@ -25,7 +25,7 @@ pub(crate) fn mark_above(supers: &[u8], classes: &[u16], a: usize, stamp: u16, a
     let mut next = above(supers, place(classes, a));
     while 0 < next {
         let class = next - 1;
-        put16(aboves, class, stamp);
+        put(aboves, class, stamp);
         next = above(supers, class);
     }
 }

@@ -90,8 +90,8 @@ pub extern "C" fn tariff_check_at(bytes: &[u8], answer: &mut [u32]) -> u8
 {
     let v = judge(bytes);
     let number = v.number;
-    cells::put32(answer, 0, cells::from16(cells::from8(number)));
-    cells::put32(answer, 1, cells::from16(cells::from8(v.method)));
-    cells::put32(answer, 2, v.point);
+    cells::put(answer, 0, u32::from(number));
+    cells::put(answer, 1, u32::from(v.method));
+    cells::put(answer, 2, v.point);
     number
 }

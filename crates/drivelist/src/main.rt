@@ -28,8 +28,8 @@ fn cell_at(input: &[u8], i: usize) -> u32
     requires { i ≤ 1000 }
 {
     let place = i * 4;
-    cells::from16(cells::short_at(input, place)) * 65536
-        + cells::from16(cells::short_at(input, place + 2))
+    u32::from(cells::short_at(input, place)) * 65536
+        + u32::from(cells::short_at(input, place + 2))
 }
 
 // How many cells are lent, of so many that there are.
@@ -37,13 +37,13 @@ fn lent(input: &[u8], i: usize, there: usize) -> usize
     requires { i ≤ 1000 }
     ensures { result ≤ there }
 {
-    least(cells::wide32(cell_at(input, i)), there)
+    least(cell_at(input, i) as usize, there)
 }
 
 fn read_list(input: &[u8], list: &mut [u32]) {
     let mut i = 0;
     while i < LIST {
-        cells::put32(list, i, cell_at(input, i + 3));
+        cells::put(list, i, cell_at(input, i + 3));
         i += 1;
     }
 }
@@ -62,7 +62,7 @@ fn print_outcome(writer: &mut impl Write, outcome: Outcome) -> io::Result<()> {
 fn print_cells(writer: &mut impl Write, table: &[u32]) -> io::Result<()> {
     let mut i = 0;
     while i < table.len() {
-        print_number(writer, cells::wide32(cells::at32(table, i)))?;
+        print_number(writer, cells::at(table, i) as usize)?;
         i += 1;
     }
     Ok(())
@@ -77,7 +77,7 @@ fn print_sum8(writer: &mut impl Write, table: &[u8]) -> io::Result<()> {
     let mut sum = 0;
     let mut i = 0;
     while i < table.len() {
-        sum = sum_on(sum, cells::wide8(cells::at8(table, i)));
+        sum = sum_on(sum, usize::from(cells::at(table, i)));
         i += 1;
     }
     print_number(writer, sum)
@@ -87,7 +87,7 @@ fn print_sum16(writer: &mut impl Write, table: &[u16]) -> io::Result<()> {
     let mut sum = 0;
     let mut i = 0;
     while i < table.len() {
-        sum = sum_on(sum, cells::wide16(cells::at16(table, i)));
+        sum = sum_on(sum, usize::from(cells::at(table, i)));
         i += 1;
     }
     print_number(writer, sum)
@@ -97,7 +97,7 @@ fn print_sum32(writer: &mut impl Write, table: &[u32]) -> io::Result<()> {
     let mut sum = 0;
     let mut i = 0;
     while i < table.len() {
-        sum = sum_on(sum, cells::wide32(cells::at32(table, i)));
+        sum = sum_on(sum, cells::at(table, i) as usize);
         i += 1;
     }
     print_number(writer, sum)

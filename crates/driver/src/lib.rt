@@ -51,7 +51,7 @@ fn refusal_number(refusal: Refusal) -> u32
 {
     match refusal {
         Refusal::Wanted(_, _) => WANTED,
-        Refusal::Word(n) => cells::from16(cells::from8(n)),
+        Refusal::Word(n) => u32::from(n),
     }
 }
 
@@ -87,7 +87,7 @@ fn tell(reply: Reply) -> Told
         Reply::Accepted => Told::new(0, 0, 0),
         Reply::Defined(_) => Told::new(0, 0, 0),
         Reply::Stepped(a) => Told::new(step_number(a), 0, 0),
-        Reply::RanFor(count, a) => Told::new(0, step_number(a), cells::from16(count)),
+        Reply::RanFor(count, a) => Told::new(0, step_number(a), u32::from(count)),
         Reply::Denied(refusal) => Told::new(refusal_number(refusal), 0, 0),
         Reply::Swept(_) => Told::new(0, 0, 0),
     }
@@ -100,9 +100,9 @@ fn write_answer(answers: &mut [u32], i: usize, reply: Reply)
 {
     let place = i * ANSWER_CELLS;
     let it = tell(reply);
-    cells::put32(answers, place, it.number);
-    cells::put32(answers, place + 1, it.end);
-    cells::put32(answers, place + 2, it.count);
+    cells::put(answers, place, it.number);
+    cells::put(answers, place + 1, it.end);
+    cells::put(answers, place + 2, it.count);
 }
 
 // Boot answers this, or a refusal.
@@ -124,8 +124,8 @@ fn file_of<'a>(list: &[u32], files: &'a [u8], i: usize) -> &'a [u8]
     requires { i * call_cells + call_cells ≤ length list.now }
     ensures { result.now ≡ file_in list.now files.now i }
 {
-    let start = cells::wide32(list[i * CALL_CELLS + 2]);
-    let end = start + cells::wide32(list[i * CALL_CELLS + 3]);
+    let start = list[i * CALL_CELLS + 2] as usize;
+    let end = start + list[i * CALL_CELLS + 3] as usize;
     if end <= files.len() {
         &files[start..end]
     } else {
@@ -137,7 +137,7 @@ fn file_of<'a>(list: &[u32], files: &'a [u8], i: usize) -> &'a [u8]
 fn read_define(loader: u32, start: u32, size: u32, room: usize) -> Row
     ensures { (bs : List ℕ) → call_made result bs ≡ pick (leb (start + size) room) (some (call_define loader bs)) none }
 {
-    if room < cells::wide32(start) + cells::wide32(size) {
+    if room < start as usize + size as usize {
         return Row::Unreadable;
     }
     Row::Readable(Call::Define(loader))
@@ -147,7 +147,7 @@ fn read_define(loader: u32, start: u32, size: u32, room: usize) -> Row
 fn read_try(loader: u32, start: u32, size: u32, n: u32, room: usize) -> Row
     ensures { (bs : List ℕ) → call_made result bs ≡ pick (leb (start + size) room) (some (call_try (load_define loader bs) n)) none }
 {
-    if room < cells::wide32(start) + cells::wide32(size) {
+    if room < start as usize + size as usize {
         return Row::Unreadable;
     }
     Row::Readable(Call::TryDefine(loader, n))

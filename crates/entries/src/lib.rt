@@ -28,7 +28,7 @@ fn room(size: usize, start: usize, n: usize) -> usize
 pub fn write_cells(t: &mut [u16], from: u16, cells: &[u16])
     ensures { t.new ≡ write_rows slice_set cells.now from t.old }
 {
-    let start = cells::wide16(from);
+    let start = usize::from(from);
     let n = room(t.len(), start, cells.len());
     let mut i = 0;
     while i < n {
@@ -41,7 +41,7 @@ pub fn write_cells(t: &mut [u16], from: u16, cells: &[u16])
 pub fn write_bytes(t: &mut [u8], from: u16, bytes: &[u8])
     ensures { t.new ≡ write_rows slice_set bytes.now from t.old }
 {
-    let start = cells::wide16(from);
+    let start = usize::from(from);
     let n = room(t.len(), start, bytes.len());
     let mut i = 0;
     while i < n {
@@ -54,7 +54,7 @@ pub fn write_bytes(t: &mut [u8], from: u16, bytes: &[u8])
 pub fn put_three(t: &mut [u16], i: u16, a: u16, b: u16, c: u16)
     ensures { t.new ≡ put_three t.old i a b c }
 {
-    cells::put_three(t, cells::from16(i), a, b, c);
+    cells::put_three(t, u32::from(i), a, b, c);
 }
 
 // The counts and the cache written over the fronts of two tables, of any lengths, with one more entry: its row stands at the old count of entries,
@@ -72,8 +72,8 @@ fn enter(
 {
     write_cells(counted, 0, counts);
     write_cells(trial, 0, cache);
-    let entries = cells::at16(counts, COUNT_CACHE);
-    cells::put16(counted, COUNT_CACHE, std::num::wrapping_add_u16(entries, 1));
+    let entries = cells::at(counts, COUNT_CACHE);
+    cells::put(counted, COUNT_CACHE, std::num::wrapping_add_u16(entries, 1));
     put_three(trial, entries, loader, name, class);
 }
 

@@ -14,17 +14,17 @@ fn copy_level(counts: &mut [u16], from: usize, i: u16)
     requires { from < int_range }
     ensures { counts.new ≡ put_level counts.old i (level_in counts.old from) }
 {
-    let classes = cells::at16(counts, from);
-    let kept = cells::at16(counts, from + 1);
-    let cache = cells::at16(counts, from + 2);
-    let ties = cells::at16(counts, from + 3);
-    let subtypes = cells::at16(counts, from + 4);
-    let place = TRACE_CELL + cells::wide16(i) * LEVEL_CELLS;
-    cells::put16(counts, place, classes);
-    cells::put16(counts, place + 1, kept);
-    cells::put16(counts, place + 2, cache);
-    cells::put16(counts, place + 3, ties);
-    cells::put16(counts, place + 4, subtypes);
+    let classes = cells::at(counts, from);
+    let kept = cells::at(counts, from + 1);
+    let cache = cells::at(counts, from + 2);
+    let ties = cells::at(counts, from + 3);
+    let subtypes = cells::at(counts, from + 4);
+    let place = TRACE_CELL + usize::from(i) * LEVEL_CELLS;
+    cells::put(counts, place, classes);
+    cells::put(counts, place + 1, kept);
+    cells::put(counts, place + 2, cache);
+    cells::put(counts, place + 3, ties);
+    cells::put(counts, place + 4, subtypes);
 }
 
 // Of a full trace the oldest goes, and the others move down by a row.
@@ -33,7 +33,7 @@ fn move_down(counts: &mut [u16])
 {
     let mut k: u16 = 0;
     while k < LAST {
-        let from = TRACE_CELL + (cells::wide16(k) + 1) * LEVEL_CELLS;
+        let from = TRACE_CELL + (usize::from(k) + 1) * LEVEL_CELLS;
         copy_level(counts, from, k);
         k += 1;
     }
@@ -43,12 +43,12 @@ fn move_down(counts: &mut [u16])
 pub fn remember(counts: &mut [u16])
     ensures { counts.new ≡ remembered_in counts.old }
 {
-    let loads = cells::at16(counts, LOADS_CELL);
+    let loads = cells::at(counts, LOADS_CELL);
     if TRACE_LIMIT < loads {
         return;
     }
     if loads < TRACE_LIMIT {
-        cells::put16(counts, LOADS_CELL, loads + 1);
+        cells::put(counts, LOADS_CELL, loads + 1);
         copy_level(counts, 0, loads);
         return;
     }

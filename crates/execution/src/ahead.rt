@@ -59,7 +59,7 @@ pub(crate) fn go_ahead(
     if most == 0 {
         return no_walk();
     }
-    if cells::at16(counts, LOADS_CELL) != 0 {
+    if cells::at(counts, LOADS_CELL) != 0 {
         return no_walk();
     }
     let task = tasks::turn(counts);
@@ -84,7 +84,7 @@ pub(crate) fn go_ahead(
     let first = first_number(classfile::version(file));
     let last = first + 256;
     let key = key_of(c, m);
-    let from = cells::wide32(b);
+    let from = b as usize;
     let end = from + FRAME_CELLS;
     let row = &mut frames[from..end];
     walk(

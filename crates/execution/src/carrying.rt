@@ -38,14 +38,14 @@ pub(crate) fn post_ties(counts: &mut [u16], ties: &mut [u16], posting: Posting) 
     ensures written { ties.new ≡ write_rows put_tie (to_post posting) (get_or counts.old count_ties 0) ties.old }
     ensures behind { (result.ties ≡ get_or counts.old count_ties 0) × (result.subtypes ≡ get_or counts.old count_subtypes 0) }
 {
-    let n = cells::at16(counts, COUNT_TIES);
-    let subtypes = cells::at16(counts, COUNT_SUBTYPES);
+    let n = cells::at(counts, COUNT_TIES);
+    let subtypes = cells::at(counts, COUNT_SUBTYPES);
     let k = posting::tie_number(posting);
     if k == 0 {
         return Before { ties: n, subtypes };
     }
     posting::write_ties(ties, n, posting);
-    cells::put16(counts, COUNT_TIES, n + k);
+    cells::put(counts, COUNT_TIES, n + k);
     Before { ties: n, subtypes }
 }
 
@@ -126,9 +126,9 @@ pub(crate) fn take_row(counts: &mut [u16], o: u16, task: u8)
     requires { o < object_limit }
     ensures { counts.new ≡ set (set counts.old count_objects (rows_with o (get_or counts.old count_objects 0))) (owners_cell + o) (suc task) }
 {
-    let n = cells::at16(counts, COUNT_OBJECTS);
-    cells::put16(counts, COUNT_OBJECTS, rows_with(o, n));
-    frames::write_owner(counts, cells::from16(o), cells::from8(task) + 1);
+    let n = cells::at(counts, COUNT_OBJECTS);
+    cells::put(counts, COUNT_OBJECTS, rows_with(o, n));
+    frames::write_owner(counts, u32::from(o), u16::from(task) + 1);
 }
 
 // An object of class c made by a task, with the number o, which is pushed.
@@ -151,7 +151,7 @@ fn make(
     ensures made { objects.new ≡ put_object objects.old o (new_object (quick_base counts.old classes.now kept.now cache.now) c) }
     ensures pushed { frames.new ≡ put_operand b (moved frames.old b q (d + 1)) d (object_value o) }
 {
-    write_new(counts, classes, kept, cache, objects, cells::from16(o), c);
+    write_new(counts, classes, kept, cache, objects, u32::from(o), c);
     push(
         frames,
         b,
@@ -159,7 +159,7 @@ fn make(
         d,
         Cell {
             kind: KIND_OBJECT,
-            bits: cells::from16(o),
+            bits: u32::from(o),
         },
     );
     take_row(counts, o, task);
@@ -187,7 +187,7 @@ pub(crate) fn carry_out(
             Answer::Ran(top.task)
         }
         Plan::Jump(d, p) => {
-            frames::write_moved(frames, top.base, cells::from16(p), d);
+            frames::write_moved(frames, top.base, u32::from(p), d);
             Answer::Ran(top.task)
         }
         Plan::Above(d, v) => {

@@ -156,7 +156,7 @@ pub(crate) fn choose(
     let file = resolution::file_of(counts, classes, kept, c);
     let code = resolution::code_of(file, j);
     let version = classfile::version(file);
-    let Reading::At(i, n) = verifier::decode(version, code, cells::wide32(p)) else {
+    let Reading::At(i, n) = verifier::decode(version, code, p as usize) else {
         return Choice {
             posting: Posting::Nothing,
             plan: instructions::refuse(WORD_STUCK),
@@ -171,6 +171,6 @@ pub(crate) fn choose(
     Choice {
         posting,
         plan,
-        next: (cells::wide32(p) + n) as u32,
+        next: (p as usize + n) as u32,
     }
 }

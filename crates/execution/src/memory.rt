@@ -14,7 +14,7 @@ pub(crate) fn key_of(c: u32, m: u32) -> u16
 fn index_of(key: u16, p: u16, r: u16) -> usize
     ensures { result ≡ index_of key p r }
 {
-    (67 * cells::wide16(key) + cells::wide16(p) + 8 * cells::wide16(r)) % 512
+    (67 * usize::from(key) + usize::from(p) + 8 * usize::from(r)) % 512
 }
 
 // The number of a place, never 0.
@@ -22,7 +22,7 @@ fn tag_of(key: u16, p: u16, r: u16) -> u32
     requires { key < 512 }
     ensures { result ≡ tag_of key p r }
 {
-    32768 * cells::from16(key) + 64 * cells::from16(p) + cells::from16(r) + 1
+    32768 * u32::from(key) + 64 * u32::from(p) + u32::from(r) + 1
 }
 
 // What is remembered of a place, or `none`.
@@ -31,10 +31,10 @@ pub(crate) fn recall(tags: &[u32], facts: &[u32], key: u16, p: u16, r: u16, none
     ensures { result ≡ recalled tags.now facts.now key p r none }
 {
     let i = index_of(key, p, r);
-    if cells::at32(tags, i) != tag_of(key, p, r) {
+    if cells::at(tags, i) != tag_of(key, p, r) {
         return none;
     }
-    cells::at32(facts, i)
+    cells::at(facts, i)
 }
 
 // A fact is remembered.
@@ -43,6 +43,6 @@ pub(crate) fn remember(tags: &mut [u32], facts: &mut [u32], key: u16, p: u16, r:
     ensures { (tags.new ≡ set tags.old (index_of key p r) (tag_of key p r)) × (facts.new ≡ set facts.old (index_of key p r) fact) }
 {
     let i = index_of(key, p, r);
-    cells::put32(tags, i, tag_of(key, p, r));
-    cells::put32(facts, i, fact);
+    cells::put(tags, i, tag_of(key, p, r));
+    cells::put(facts, i, fact);
 }

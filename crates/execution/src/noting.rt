@@ -30,7 +30,7 @@ fn is_old(counts: &[u16], ties: &[u16], one: u16, two: u16, of: u16) -> bool
     }
     let posting = posting::new_ties(
         ties,
-        cells::at16(counts, COUNT_TIES),
+        cells::at(counts, COUNT_TIES),
         one as u8,
         two as u8,
         Arguments::NoArguments,
@@ -177,7 +177,7 @@ fn place_of(
     }
     let file = resolution::file_of(counts, classes, kept, c);
     let code = resolution::code_of(file, m);
-    let Reading::At(i, _) = verifier::decode(classfile::version(file), code, cells::wide32(p))
+    let Reading::At(i, _) = verifier::decode(classfile::version(file), code, p as usize)
     else {
         return nowhere();
     };

@@ -55,7 +55,7 @@ fn getfield(
     requires { (key < 512) × Inside code.now p × (d ≤ operand_limit) }
     ensures { Does Opcode.OpGetfield tags.now facts.now counts.now key code.now row.old objects.now p d result row.new objects.now }
 {
-    if code.len() - cells::wide32(p) <= 6 {
+    if code.len() - (p as usize) <= 6 {
         return stay();
     }
     if d == 0 {
@@ -84,7 +84,7 @@ fn putfield(
     requires { (key < 512) × Inside code.now p × (d ≤ operand_limit) }
     ensures { Does Opcode.OpPutfield tags.now facts.now counts.now key code.now row.old objects.old p d result row.new objects.new }
 {
-    let at = cells::wide32(p);
+    let at = p as usize;
     if code.len() - at <= 6 {
         return stay();
     }
@@ -158,11 +158,11 @@ pub(crate) fn walk(
     let mut d = frames::depth(row, 0);
     let mut k: u16 = 0;
     while k < most {
-        let at = cells::wide32(p);
+        let at = p as usize;
         if code.len() <= at {
             return Pace { steps: k, stop: 0 };
         }
-        let number = cells::at8(numbers, cells::wide8(cells::at8(code, at)));
+        let number = cells::at(numbers, usize::from(cells::at(code, at)));
         let m = reach(tags, facts, counts, objects, row, code, number, key, p, d);
         if !m.on {
             return Pace {

@@ -50,7 +50,7 @@ fn check_ties(
     requires { Counts counts.now × (length ties.now ≡ ties_length) × (get_or counts.now count_ties 0 + length (to_post posting) ≤ tie_limit) × All Between (rows (tie_at ties.now) (get_or counts.now count_ties 0) 0) × All Between (to_post posting) }
     ensures { Names (posted (world_in (quick_base counts.now classes.now kept.now cache.now) (tables counts.now classes.now kept.now cache.now ties.now subtypes.now [] [])) (to_post posting)) none result }
 {
-    let n = cells::at16(counts, COUNT_TIES);
+    let n = cells::at(counts, COUNT_TIES);
     let mut tried = [0u16; TIES_LENGTH];
     copy_rows(&mut tried, ties);
     posting::write_ties(&mut tried, n, posting);
@@ -62,13 +62,13 @@ fn check_ties(
     constraints::check(
         &supers,
         cache,
-        cells::at16(counts, COUNT_CACHE),
+        cells::at(counts, COUNT_CACHE),
         &tried,
         count,
         &groups,
         subtypes,
-        cells::at16(counts, COUNT_SUBTYPES),
-        cells::at16(counts, COUNT_CACHE),
+        cells::at(counts, COUNT_SUBTYPES),
+        cells::at(counts, COUNT_CACHE),
     )
 }
 
@@ -121,7 +121,7 @@ fn settle(
     if one == two {
         return decided(Posting::Nothing, plan);
     }
-    let n = cells::at16(counts, COUNT_TIES);
+    let n = cells::at(counts, COUNT_TIES);
     let posting = posting::new_ties(ties, n, one, two, names, last);
     let k = posting::tie_number(posting);
     if k == 0 {

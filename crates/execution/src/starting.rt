@@ -59,14 +59,14 @@ fn begin(
     ensures made { objects.new ≡ put_object objects.old o (new_object (quick_base counts.old classes.now kept.now cache.now) c) }
     ensures entered { frames.new ≡ put_frame frames.old (frame_base task 0) (entry_frame s j o (int_value value ∷ [])) }
 {
-    write_new(counts, classes, kept, cache, objects, cells::from16(o), c);
+    write_new(counts, classes, kept, cache, objects, u32::from(o), c);
     frames::write_entry(
         frames,
         frames::row(task, 0),
         Entry {
             class: s,
             method: j,
-            object: cells::from16(o),
+            object: u32::from(o),
             first: Cell {
                 kind: KIND_INT,
                 bits: value,
@@ -78,7 +78,7 @@ fn begin(
     );
     take_row(counts, o, task);
     tasks::write_frame_count(counts, task, 1);
-    cells::put16(counts, LOADS_CELL, 0);
+    cells::put(counts, LOADS_CELL, 0);
 }
 
 // Makes a new object of the cached class and a first frame in the method selected for that name, int and int, with that object and int.

@@ -34,7 +34,7 @@ fn close(counts: &mut [u16], answer: Answer)
     if !went_on(answer) {
         return;
     }
-    cells::put16(counts, LOADS_CELL, 0);
+    cells::put(counts, LOADS_CELL, 0);
 }
 
 // Groups are made anew where ties were posted.

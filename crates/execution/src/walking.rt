@@ -64,7 +64,7 @@ fn put_point(row: &mut [u32], q: u32, plan: Plan) -> Moved
 {
     match plan {
         Plan::Keep(d) => keep(row, q, d),
-        Plan::Jump(d, x) => keep(row, cells::from16(x), d),
+        Plan::Jump(d, x) => keep(row, u32::from(x), d),
         _ => stay(),
     }
 }
@@ -120,7 +120,7 @@ fn sipush(row: &mut [u32], code: &[u8], p: u32, d: u32) -> Moved
     requires { Inside code.now p × (d ≤ operand_limit) }
     ensures { Does Opcode.OpSipush code.now row.old p d result row.new }
 {
-    let at = cells::wide32(p);
+    let at = p as usize;
     if code.len() - at <= 2 {
         return stay();
     }
@@ -132,11 +132,11 @@ fn load(row: &mut [u32], code: &[u8], kind: Kind, p: u32, d: u32) -> Moved
     requires { Inside code.now p × (d ≤ operand_limit) }
     ensures { Does (Opcode.OpLoad kind) code.now row.old p d result row.new }
 {
-    let at = cells::wide32(p);
+    let at = p as usize;
     if code.len() - at <= 1 {
         return stay();
     }
-    let j = cells::at8(code, at + 1);
+    let j = cells::at(code, at + 1);
     let plan = instructions::load(row, top_of(d), kind, j);
     put_above(row, p + 2, plan)
 }
@@ -145,11 +145,11 @@ fn store(row: &mut [u32], code: &[u8], kind: Kind, p: u32, d: u32) -> Moved
     requires { Inside code.now p × (d ≤ operand_limit) }
     ensures { Does (Opcode.OpStore kind) code.now row.old p d result row.new }
 {
-    let at = cells::wide32(p);
+    let at = p as usize;
     if code.len() - at <= 1 {
         return stay();
     }
-    let j = cells::at8(code, at + 1);
+    let j = cells::at(code, at + 1);
     let plan = instructions::store(row, top_of(d), kind, j);
     put_local(row, p + 2, plan)
 }
@@ -181,7 +181,7 @@ fn branch(row: &mut [u32], code: &[u8], c: Condition, p: u32, d: u32) -> Moved
     requires { Inside code.now p × (d ≤ operand_limit) }
     ensures { Does (Opcode.OpBranch c) code.now row.old p d result row.new }
 {
-    let at = cells::wide32(p);
+    let at = p as usize;
     if code.len() - at <= 2 {
         return stay();
     }

@@ -58,8 +58,8 @@ fn pair(t: &[u32], i: usize) -> Cell
     ensures { value_of result.kind result.bits ≡ value_at t.now i }
 {
     Cell {
-        kind: cells::at32(t, i),
-        bits: cells::at32(t, i + 1),
+        kind: cells::at(t, i),
+        bits: cells::at(t, i + 1),
     }
 }
 
@@ -69,7 +69,7 @@ pub fn operand(frames: &[u32], b: u32, i: u32) -> Cell
 {
     pair(
         frames,
-        cells::wide32(b) + (OPERANDS_CELL + VALUE_CELLS * cells::wide32(i)),
+        b as usize + (OPERANDS_CELL + VALUE_CELLS * i as usize),
     )
 }
 
@@ -78,7 +78,7 @@ pub fn local(frames: &[u32], b: u32, j: u8) -> Cell
 {
     pair(
         frames,
-        cells::wide32(b) + (LOCALS_CELL + VALUE_CELLS * cells::wide8(j)),
+        b as usize + (LOCALS_CELL + VALUE_CELLS * usize::from(j)),
     )
 }
 
@@ -88,7 +88,7 @@ pub fn field(objects: &[u32], o: u32, j: u8) -> Cell
 {
     pair(
         objects,
-        cells::wide32(o) * OBJECT_CELLS + (FIELDS_CELL + VALUE_CELLS * cells::wide8(j)),
+        o as usize * OBJECT_CELLS + (FIELDS_CELL + VALUE_CELLS * usize::from(j)),
     )
 }
 
@@ -96,39 +96,39 @@ pub fn field(objects: &[u32], o: u32, j: u8) -> Cell
 pub fn object_class(objects: &[u32], o: u32) -> u32
     ensures { result ≡ get_or objects.now (o * object_cells) 0 }
 {
-    cells::at32(objects, cells::wide32(o) * OBJECT_CELLS)
+    cells::at(objects, o as usize * OBJECT_CELLS)
 }
 
 // A frame's class, its method's place in that class, its point and its operand count.
 pub fn frame_class(frames: &[u32], b: u32) -> u32
     ensures { result ≡ get_or frames.now b 0 }
 {
-    cells::at32(frames, cells::wide32(b))
+    cells::at(frames, b as usize)
 }
 
 pub fn frame_method(frames: &[u32], b: u32) -> u32
     ensures { result ≡ get_or frames.now (b + method_cell) 0 }
 {
-    cells::at32(frames, cells::wide32(b) + METHOD_CELL)
+    cells::at(frames, b as usize + METHOD_CELL)
 }
 
 pub fn point(frames: &[u32], b: u32) -> u32
     ensures { result ≡ get_or frames.now (b + point_cell) 0 }
 {
-    cells::at32(frames, cells::wide32(b) + POINT_CELL)
+    cells::at(frames, b as usize + POINT_CELL)
 }
 
 pub fn depth(frames: &[u32], b: u32) -> u32
     ensures { result ≡ get_or frames.now (b + depth_cell) 0 }
 {
-    cells::at32(frames, cells::wide32(b) + DEPTH_CELL)
+    cells::at(frames, b as usize + DEPTH_CELL)
 }
 
 // Where row m of a task begins.
 pub fn row(task: u8, m: u16) -> u32
     ensures { result ≡ frame_base task m }
 {
-    (cells::from16(cells::from8(task)) * TASK_ROWS + cells::from16(m)) * ROW_SIZE
+    (u32::from(task) * TASK_ROWS + u32::from(m)) * ROW_SIZE
 }
 
 // Writing
@@ -137,23 +137,23 @@ fn write_pair(t: &mut [u32], i: usize, v: Cell)
     requires { i < 1099511627776 }
     ensures { t.new ≡ put_cells t.old i v.kind v.bits }
 {
-    cells::put32(t, i, v.kind);
-    cells::put32(t, i + 1, v.bits);
+    cells::put(t, i, v.kind);
+    cells::put(t, i + 1, v.bits);
 }
 
 // The point and the operand count.
 pub fn write_moved(frames: &mut [u32], b: u32, p: u32, d: u32)
     ensures { frames.new ≡ moved frames.old b p d }
 {
-    cells::put32(frames, cells::wide32(b) + POINT_CELL, p);
-    cells::put32(frames, cells::wide32(b) + DEPTH_CELL, d);
+    cells::put(frames, b as usize + POINT_CELL, p);
+    cells::put(frames, b as usize + DEPTH_CELL, d);
 }
 
 // The operand count alone.
 pub fn write_depth(frames: &mut [u32], b: u32, d: u32)
     ensures { frames.new ≡ set frames.old (b + depth_cell) d }
 {
-    cells::put32(frames, cells::wide32(b) + DEPTH_CELL, d);
+    cells::put(frames, b as usize + DEPTH_CELL, d);
 }
 
 pub fn write_operand(frames: &mut [u32], b: u32, i: u32, v: Cell)
@@ -161,7 +161,7 @@ pub fn write_operand(frames: &mut [u32], b: u32, i: u32, v: Cell)
 {
     write_pair(
         frames,
-        cells::wide32(b) + (OPERANDS_CELL + VALUE_CELLS * cells::wide32(i)),
+        b as usize + (OPERANDS_CELL + VALUE_CELLS * i as usize),
         v,
     );
 }
@@ -171,7 +171,7 @@ pub fn write_local(frames: &mut [u32], b: u32, j: u8, v: Cell)
 {
     write_pair(
         frames,
-        cells::wide32(b) + (LOCALS_CELL + VALUE_CELLS * cells::wide8(j)),
+        b as usize + (LOCALS_CELL + VALUE_CELLS * usize::from(j)),
         v,
     );
 }
@@ -181,7 +181,7 @@ pub fn write_field(objects: &mut [u32], o: u32, j: u8, v: Cell)
 {
     write_pair(
         objects,
-        cells::wide32(o) * OBJECT_CELLS + (FIELDS_CELL + VALUE_CELLS * cells::wide8(j)),
+        o as usize * OBJECT_CELLS + (FIELDS_CELL + VALUE_CELLS * usize::from(j)),
         v,
     );
 }
@@ -189,8 +189,8 @@ pub fn write_field(objects: &mut [u32], o: u32, j: u8, v: Cell)
 fn write_head(frames: &mut [u32], b: u32, c: u32, j: u32)
     ensures { frames.new ≡ put_head frames.old b c j 0 0 }
 {
-    cells::put32(frames, cells::wide32(b), c);
-    cells::put32(frames, cells::wide32(b) + METHOD_CELL, j);
+    cells::put(frames, b as usize, c);
+    cells::put(frames, b as usize + METHOD_CELL, j);
     write_moved(frames, b, 0, 0);
 }
 
@@ -265,10 +265,10 @@ fn write_initial(objects: &mut [u32], o: u32, j: u8, name: u16)
 pub fn write_object(objects: &mut [u32], o: u32, c: u32, types: &[u16], n: u8)
     ensures { objects.new ≡ put_object objects.old o (initial_object c types.now n) }
 {
-    cells::put32(objects, cells::wide32(o) * OBJECT_CELLS, c);
+    cells::put(objects, o as usize * OBJECT_CELLS, c);
     let mut i = n;
     while 0 < i {
-        write_initial(objects, o, i - 1, cells::at16(types, cells::wide8(i - 1)));
+        write_initial(objects, o, i - 1, cells::at(types, usize::from(i - 1)));
         i -= 1;
     }
 }

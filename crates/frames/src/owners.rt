@@ -12,21 +12,21 @@ use definition::numbers::{COUNT_OBJECTS, OWNERS_CELL, SHARE_LIMIT};
 pub fn owner(counts: &[u16], o: u32) -> u16
     ensures { result ≡ owner_at counts.now o }
 {
-    cells::at16(counts, OWNERS_CELL + cells::wide32(o))
+    cells::at(counts, OWNERS_CELL + o as usize)
 }
 
 // The owner of row o written.
 pub fn write_owner(counts: &mut [u16], o: u32, owner: u16)
     ensures { counts.new ≡ set counts.old (owners_cell + o) owner }
 {
-    cells::put16(counts, OWNERS_CELL + cells::wide32(o), owner);
+    cells::put(counts, OWNERS_CELL + o as usize, owner);
 }
 
 // Whether number o is used: below the object count, in a row with an owner.
 pub fn is_used(counts: &[u16], o: u32) -> bool
     ensures { result ≡ is_used counts.now o }
 {
-    if o < cells::from16(cells::at16(counts, COUNT_OBJECTS)) {
+    if o < u32::from(cells::at(counts, COUNT_OBJECTS)) {
         owner(counts, o) != 0
     } else {
         false
@@ -37,10 +37,10 @@ pub fn is_used(counts: &[u16], o: u32) -> bool
 pub fn unused(counts: &[u16], from: u16) -> u16
     ensures { result ≡ unused_from counts.now from }
 {
-    let n = cells::at16(counts, COUNT_OBJECTS);
+    let n = cells::at(counts, COUNT_OBJECTS);
     let mut o = from;
     while o < n {
-        if owner(counts, cells::from16(o)) == 0 {
+        if owner(counts, u32::from(o)) == 0 {
             return o;
         }
         o += 1;
@@ -52,9 +52,9 @@ pub fn unused(counts: &[u16], from: u16) -> u16
 pub fn made_by(counts: &[u16], task: u8) -> u16
     ensures { result ≡ made_in counts.now task }
 {
-    let own = cells::from8(task) + 1;
-    let rows = cells::wide16(cells::at16(counts, COUNT_OBJECTS));
-    let held = cells::held16(counts, OWNERS_CELL, rows);
+    let own = u16::from(task) + 1;
+    let rows = usize::from(cells::at(counts, COUNT_OBJECTS));
+    let held = cells::held(counts, OWNERS_CELL, rows);
     let mut made: u16 = 0;
     let mut o: usize = 0;
     while o < held {

@@ -6,7 +6,6 @@ ghost use Rattle.groups.specs.Claims.{key_in, Loaders, Claim};
 ghost use Rattle.groups.specs.Lowest.{AllClaimed};
 
 use crate::uniting::join;
-use cells::{wide8, wide16};
 use definition::numbers::{LOADER_LIMIT, ROW_CELLS};
 
 // How many loaders there are: a key for each, of the first row of each name.
@@ -17,7 +16,7 @@ fn claim(firsts: &mut [u16], ups: &mut [u16], key: usize, low: usize) -> usize
     requires { (key < length firsts.old) × (length ups.old ≡ tie_limit) × (low < tie_limit) × (low ≤ get_or ups.old low 0) × (get_or firsts.old key 0 ≤ tie_limit) }
     ensures { Claim firsts.old ups.old key low firsts.new ups.new result }
 {
-    let first = wide16(firsts[key]);
+    let first = usize::from(firsts[key]);
     if first == 0 {
         firsts[key] = (low + 1) as u16;
         return low;
@@ -32,7 +31,7 @@ fn key_of(ties: &[u16], nodes: &[u8], end: usize, i: usize) -> usize
     requires { (end < 3) × (i < tie_limit) × (i < length nodes.now) × (i * 3 + end < length ties.now) }
     ensures { result ≡ key_in ties.now nodes.now end i }
 {
-    wide8(nodes[i]) * LOADERS + wide16(ties[i * ROW_CELLS + end])
+    usize::from(nodes[i]) * LOADERS + usize::from(ties[i * ROW_CELLS + end])
 }
 
 // Makes rows one group that name one request, of the first n; no row leads to another before, and no request has a row.

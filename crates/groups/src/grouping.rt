@@ -11,7 +11,7 @@ ghost use Rattle.groups.specs.Lowest.{at_most, up_to, cells_of, ties_at, Room, R
 use crate::claims::claim_rows;
 use crate::names::{ROW_LIMIT, number_few, number_names};
 use crate::uniting::list_roots;
-use cells::{at16, wide16};
+use cells::at;
 use definition::numbers::{LOADER_LIMIT, ROW_CELLS, TIE_LIMIT, TIES_LENGTH};
 
 const LOADERS: u16 = LOADER_LIMIT as u16;
@@ -28,7 +28,7 @@ fn at_most(count: u16) -> usize
     ensures { (result ≡ at_most tie_limit count) × (result ≤ tie_limit) }
 {
     if count <= TIE_LIMIT {
-        wide16(count)
+        usize::from(count)
     } else {
         ROW_LIMIT
     }
@@ -107,7 +107,7 @@ fn copy_cells(ties: &[u16], whole: &mut [u16])
 {
     let mut i = 0;
     while i < TIES_LENGTH {
-        whole[i] = at16(ties, i);
+        whole[i] = at(ties, i);
         i += 1;
     }
 }

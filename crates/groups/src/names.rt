@@ -3,7 +3,6 @@ ghost use Rattle.std.specs.Prelude.{◌≡◌, ℕ, ◌+◌, ◌*◌, ◌<◌, �
 ghost use Rattle.definition.specs.Numbers.{tie_limit};
 ghost use Rattle.groups.specs.Firsts.{Entered, First, NodesOf, name_in, high_count};
 
-use cells::{wide8, wide16};
 use definition::numbers::{ROW_CELLS, TIE_LIMIT};
 
 // How many rows of ties there are at most.
@@ -19,7 +18,7 @@ fn first_of(firsts: &mut [u8], key: usize, p: usize) -> usize
     requires { (key < length firsts.old) × (p < tie_limit) }
     ensures { Entered firsts.old key p firsts.new result }
 {
-    let first = wide8(firsts[key]);
+    let first = usize::from(firsts[key]);
     if first < p {
         return first;
     }
@@ -35,7 +34,7 @@ pub(crate) fn number_names(ties: &[u16], n: usize, blocks: &mut [u8], nodes: &mu
     let mut starts = [255u8; LOW_COUNT];
     let mut p = 0;
     while p < n {
-        let name = wide16(ties[p * ROW_CELLS + 2]);
+        let name = usize::from(ties[p * ROW_CELLS + 2]);
         let block = first_of(&mut starts, name % LOW_COUNT, p);
         let node = first_of(blocks, block * HIGH_COUNT + name / LOW_COUNT, p);
         nodes[p] = node as u8;

@@ -7,7 +7,7 @@ ghost use Rattle.groups.specs.Numbered.{groups_fit, regrouped, root_numbers};
 
 use crate::grouping::group_rows;
 use crate::names::ROW_LIMIT;
-use cells::{at16, put16, wide16};
+use cells::{at, put};
 use definition::numbers::{COUNT_TIES, GROUPS_CELL, TIE_LIMIT, TIE_NUMBERS_CELL};
 
 // The number of row i's root.
@@ -15,7 +15,7 @@ fn root_number(counts: &[u16], roots: &[u16], i: usize) -> u16
     requires { i < length roots.now }
     ensures { result ≡ root_numbers counts.now roots.now i }
 {
-    at16(counts, TIE_NUMBERS_CELL + wide16(roots[i]))
+    at(counts, TIE_NUMBERS_CELL + usize::from(roots[i]))
 }
 
 // The numbers of the roots stand beside the first n ties.
@@ -25,7 +25,7 @@ fn cells_fit(counts: &[u16], roots: &[u16], n: usize) -> bool
 {
     let mut i = 0;
     while i < n {
-        if at16(counts, GROUPS_CELL + i) != root_number(counts, roots, i) {
+        if at(counts, GROUPS_CELL + i) != root_number(counts, roots, i) {
             return false;
         }
         i += 1;
@@ -42,7 +42,7 @@ fn write_cells(counts: &mut [u16], roots: &[u16], n: usize)
     while 0 < i {
         i -= 1;
         let number = root_number(counts, roots, i);
-        put16(counts, GROUPS_CELL + i, number);
+        put(counts, GROUPS_CELL + i, number);
     }
 }
 
@@ -50,7 +50,7 @@ fn write_cells(counts: &mut [u16], roots: &[u16], n: usize)
 pub fn groups_fit(counts: &[u16], ties: &[u16]) -> bool
     ensures { result ≡ groups_fit counts.now ties.now (get_or counts.now count_ties 0) }
 {
-    let n = at16(counts, COUNT_TIES);
+    let n = at(counts, COUNT_TIES);
     if TIE_LIMIT < n {
         return false;
     }
@@ -58,18 +58,18 @@ pub fn groups_fit(counts: &[u16], ties: &[u16]) -> bool
     if !group_rows(ties, n, &mut roots) {
         return false;
     }
-    cells_fit(counts, &roots, wide16(n))
+    cells_fit(counts, &roots, usize::from(n))
 }
 
 // Writes the groups of a counts table's ties beside them, if these fit.
 pub fn write_groups(counts: &mut [u16], ties: &[u16])
     ensures { counts.new ≡ regrouped counts.old ties.now (get_or counts.old count_ties 0) }
 {
-    let n = at16(counts, COUNT_TIES);
+    let n = at(counts, COUNT_TIES);
     if n <= TIE_LIMIT {
         let mut roots = [0u16; ROW_LIMIT];
         if group_rows(ties, n, &mut roots) {
-            write_cells(counts, &roots, wide16(n));
+            write_cells(counts, &roots, usize::from(n));
         }
     }
 }

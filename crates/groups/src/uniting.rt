@@ -3,7 +3,6 @@ ghost use Rattle.std.specs.Prelude.{◌≡◌, ℕ, ◌<◌, ◌≤◌, length, 
 ghost use Rattle.groups.specs.Roots.{Root, Joined};
 ghost use Rattle.definition.specs.Numbers.{short_range, tie_limit};
 
-use cells::wide16;
 
 // Where the way down from a place ends.
 fn root(ups: &[u16], p: usize) -> usize
@@ -11,10 +10,10 @@ fn root(ups: &[u16], p: usize) -> usize
     ensures { Root ups.now p result }
 {
     let mut at = p;
-    let mut up = wide16(ups[at]);
+    let mut up = usize::from(ups[at]);
     while up < at {
         at = up;
-        up = wide16(ups[at]);
+        up = usize::from(ups[at]);
     }
     at
 }
@@ -38,7 +37,7 @@ fn root_of(ups: &[u16], roots: &[u16], p: usize) -> u16
     requires { (p < short_range) × (p < length ups.now) × (p ≤ length roots.now) × ((q : ℕ) → q < p → Root ups.now q (get_or roots.now q 0)) }
     ensures { Root ups.now p result }
 {
-    let up = wide16(ups[p]);
+    let up = usize::from(ups[p]);
     if up < p { roots[up] } else { p as u16 }
 }
 

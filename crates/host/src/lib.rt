@@ -43,7 +43,7 @@ fn count_of(reply: Reply) -> u32
         Reply::Accepted => 0,
         Reply::Defined(_) => 0,
         Reply::Stepped(_) => 0,
-        Reply::RanFor(count, _) => cells::from16(count),
+        Reply::RanFor(count, _) => u32::from(count),
         Reply::Denied(_) => 0,
         Reply::Swept(_) => 0,
     }
@@ -69,12 +69,12 @@ fn report(answer: &mut [u32], turn: u8, reply: Reply) -> u8
 {
     let details = script::details_of(turn, reply);
     let refusal = details.refusal;
-    cells::put32(answer, 0, kind_of(reply));
-    cells::put32(answer, 1, cells::from16(cells::from8(refusal)));
-    cells::put32(answer, 2, details.one);
-    cells::put32(answer, 3, details.two);
-    cells::put32(answer, 4, details.three);
-    cells::put32(answer, 5, count_of(reply));
+    cells::put(answer, 0, kind_of(reply));
+    cells::put(answer, 1, u32::from(refusal));
+    cells::put(answer, 2, details.one);
+    cells::put(answer, 3, details.two);
+    cells::put(answer, 4, details.three);
+    cells::put(answer, 5, count_of(reply));
     number_of(reply, refusal)
 }
 
@@ -85,7 +85,7 @@ fn report_trial(answer: &mut [u32], turn: u8, trial: Trial) -> u8
     let reply = trial.reply;
     let count = trial.count;
     let number = report(answer, turn, reply);
-    cells::put32(answer, 5, cells::from16(count));
+    cells::put(answer, 5, u32::from(count));
     number
 }
 
@@ -98,19 +98,19 @@ const NONE: u32 = 7;
 fn report_kind(answer: &mut [u32], kind: u32, one: u32)
     ensures { answer.new ≡ write_rows set (six_cells kind one) 0 answer.old }
 {
-    cells::put32(answer, 0, kind);
-    cells::put32(answer, 1, 0);
-    cells::put32(answer, 2, one);
-    cells::put32(answer, 3, 0);
-    cells::put32(answer, 4, 0);
-    cells::put32(answer, 5, 0);
+    cells::put(answer, 0, kind);
+    cells::put(answer, 1, 0);
+    cells::put(answer, 2, one);
+    cells::put(answer, 3, 0);
+    cells::put(answer, 4, 0);
+    cells::put(answer, 5, 0);
 }
 
 // The next digit of an order of n loads of which i are told, 0 behind the last.
 fn next_offer(n: u32, i: usize, rest: u32) -> u32
     ensures { result ≡ get_or (numbers_in (n - i) rest) 0 0 }
 {
-    if i < cells::wide32(n) { rest % 8 } else { 0 }
+    if i < n as usize { rest % 8 } else { 0 }
 }
 
 // The numbers of an order's offers, one a cell, and 0 behind them.
@@ -120,7 +120,7 @@ fn report_order(answer: &mut [u32], n: u32, order: u32)
     let mut rest = order;
     let mut i = 0;
     while i < OFFER_LIMIT {
-        cells::put32(answer, 6 + i, next_offer(n, i, rest));
+        cells::put(answer, 6 + i, next_offer(n, i, rest));
         rest = rest / 8;
         i += 1;
     }
@@ -506,12 +506,12 @@ pub extern "C" fn tariff_how(
 fn write_row(answer: &mut [u32], kind: u32, one: u16, two: u16, three: u16)
     ensures { answer.new ≡ write_rows set (kind ∷ 0 ∷ one ∷ two ∷ three ∷ 0 ∷ []) 0 answer.old }
 {
-    cells::put32(answer, 0, kind);
-    cells::put32(answer, 1, 0);
-    cells::put32(answer, 2, cells::from16(one));
-    cells::put32(answer, 3, cells::from16(two));
-    cells::put32(answer, 4, cells::from16(three));
-    cells::put32(answer, 5, 0);
+    cells::put(answer, 0, kind);
+    cells::put(answer, 1, 0);
+    cells::put(answer, 2, u32::from(one));
+    cells::put(answer, 3, u32::from(two));
+    cells::put(answer, 4, u32::from(three));
+    cells::put(answer, 5, 0);
 }
 
 // 8 a tie, 9 a subtype constraint.

@@ -9,14 +9,14 @@ use definition::numbers::{INT_RANGE, SIGN_BIT};
 pub(crate) fn product(x: u32, y: u32) -> u32
     ensures { result ≡ int_bits (signed x *ℤ signed y) }
 {
-    (cells::wide32(x) * cells::wide32(y) % INT_RANGE) as u32
+    (x as usize * y as usize % INT_RANGE) as u32
 }
 
 // The int with the other sign; the least int and 0 are their own.
 fn minus(n: u32) -> u32
     ensures { result ≡ (int_range - n) % int_range }
 {
-    ((INT_RANGE - cells::wide32(n)) % INT_RANGE) as u32
+    ((INT_RANGE - n as usize) % INT_RANGE) as u32
 }
 
 // The quotient of two ints, toward zero: that of their magnitudes, negative where the signs differ.

@@ -51,19 +51,19 @@ fn asked_by(command: Command) -> Asked
     match command {
         Command::Record(loader, name, class) => Asked::Calls(
             Call::Record(
-                cells::from16(loader),
-                cells::from16(name),
-                cells::from16(class),
+                u32::from(loader),
+                u32::from(name),
+                u32::from(class),
             ),
             0,
         ),
         Command::Define(loader, size) => {
-            Asked::Calls(Call::Define(cells::from16(loader)), cells::wide32(size))
+            Asked::Calls(Call::Define(u32::from(loader)), size as usize)
         }
         Command::Start(task, loader, name, method, value) => Asked::Calls(
             Call::Start(
-                cells::from16(task),
-                cells::from16(loader),
+                u32::from(task),
+                u32::from(loader),
                 name,
                 method,
                 value,
@@ -71,7 +71,7 @@ fn asked_by(command: Command) -> Asked
             0,
         ),
         Command::Step => Asked::Calls(Call::Step, 0),
-        Command::Drop(task) => Asked::Calls(Call::Drop(cells::from16(task)), 0),
+        Command::Drop(task) => Asked::Calls(Call::Drop(u32::from(task)), 0),
         Command::Unreadable => Asked::Nothing,
     }
 }
@@ -141,7 +141,7 @@ pub fn carry_out(
         frames,
         call,
         &file[..size],
-        cells::at8(line, 0),
+        cells::at(line, 0),
         out,
     )
 }

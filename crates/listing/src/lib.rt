@@ -9,7 +9,7 @@ ghost use Rattle.definition.specs.Tables.{tables, tie_at, subtype_at, number_at}
 ghost use Rattle.definition.specs.Listing.{Row, tie_row, subtype_row, row_numbered, stored_row};
 ghost use Rattle.listing.specs.Answers.{listed_of, row_at, cells_row};
 
-use cells::{at16, from16, wide16};
+use cells::at;
 use definition::Refusal;
 use definition::numbers::{
     COUNT_SUBTYPES, COUNT_TIES, ROW_CELLS, SUBTYPE_NUMBERS_CELL, TIE_NUMBERS_CELL, WORD_BROKEN,
@@ -29,10 +29,10 @@ fn find_number(counts: &[u16], first: usize, n: u16, number: u32) -> usize
     requires { first < short_range }
     ensures { (g : ℕ → Row) → row_numbered (rows g n 0) (rows (number_at first counts.now) n 0) number ≡ row_at g n result }
 {
-    let end = wide16(n);
+    let end = usize::from(n);
     let mut i = 0;
     while i < end {
-        if from16(at16(counts, first + i)) == number {
+        if u32::from(at(counts, first + i)) == number {
             return i;
         }
         i += 1;
@@ -46,9 +46,9 @@ fn tied(ties: &[u16], i: usize) -> Listed
 {
     let place = i * ROW_CELLS;
     Listed::Tied(
-        at16(ties, place),
-        at16(ties, place + 1),
-        at16(ties, place + 2),
+        at(ties, place),
+        at(ties, place + 1),
+        at(ties, place + 2),
     )
 }
 
@@ -58,9 +58,9 @@ fn below(subtypes: &[u16], i: usize) -> Listed
 {
     let place = i * ROW_CELLS;
     Listed::Below(
-        at16(subtypes, place),
-        at16(subtypes, place + 1),
-        at16(subtypes, place + 2),
+        at(subtypes, place),
+        at(subtypes, place + 1),
+        at(subtypes, place + 2),
     )
 }
 
@@ -68,14 +68,14 @@ fn below(subtypes: &[u16], i: usize) -> Listed
 pub fn row_of_cells(counts: &[u16], ties: &[u16], subtypes: &[u16], number: u32) -> Listed
     ensures { listed_of result ≡ cells_row counts.now ties.now subtypes.now number }
 {
-    let tie_count = at16(counts, COUNT_TIES);
-    let subtype_count = at16(counts, COUNT_SUBTYPES);
+    let tie_count = at(counts, COUNT_TIES);
+    let subtype_count = at(counts, COUNT_SUBTYPES);
     let t = find_number(counts, TIE_NUMBERS_CELL, tie_count, number);
-    if t < wide16(tie_count) {
+    if t < usize::from(tie_count) {
         return tied(ties, t);
     }
     let s = find_number(counts, SUBTYPE_NUMBERS_CELL, subtype_count, number);
-    if s < wide16(subtype_count) {
+    if s < usize::from(subtype_count) {
         return below(subtypes, s);
     }
     Listed::Denied(Refusal::Word(WORD_UNKNOWN))

@@ -86,7 +86,7 @@ fn admit_file(
         return Plan::Refuse(Refusal::Word(WORD_UNMAPPED));
     }
     entries::write_cells(new_subtypes, 0, subtypes);
-    let count = cells::at16(counts, COUNT_SUBTYPES);
+    let count = cells::at(counts, COUNT_SUBTYPES);
     let verified = verifier::verify_class(file, loader, new_subtypes, count);
     if !verified.accepts {
         return Plan::Refuse(Refusal::Word(WORD_UNVERIFIED));
@@ -119,18 +119,18 @@ fn admit_entry(
     requires { class < get_or counts.now count_classes 0 }
     ensures { Enters result counts.now classes.now kept.now cache.now loader name class }
 {
-    let own = resolution::name_of(counts, classes, kept, cells::from16(class));
-    if cells::from16(own) != name {
+    let own = resolution::name_of(counts, classes, kept, u32::from(class));
+    if u32::from(own) != name {
         return Plan::Refuse(Refusal::Word(WORD_MISNAMED));
     }
-    let found = resolution::find(counts, cache, cells::from8(loader), own);
+    let found = resolution::find(counts, cache, u16::from(loader), own);
     if let Found::At(d) = found {
-        if d == cells::from16(class) {
+        if d == u32::from(class) {
             return Plan::Keep;
         }
         return Plan::Refuse(Refusal::Word(WORD_TAKEN));
     }
-    if CACHE_LIMIT <= cells::at16(counts, COUNT_CACHE) {
+    if CACHE_LIMIT <= cells::at(counts, COUNT_CACHE) {
         return Plan::Refuse(Refusal::Word(WORD_FULL));
     }
     Plan::Add(Newcomer {
@@ -138,8 +138,8 @@ fn admit_entry(
         name: own,
         class,
         above: 0,
-        tied: cells::at16(counts, COUNT_TIES),
-        noted: cells::at16(counts, COUNT_SUBTYPES),
+        tied: cells::at(counts, COUNT_TIES),
+        noted: cells::at(counts, COUNT_SUBTYPES),
     })
 }
 

@@ -23,10 +23,10 @@ pub(crate) fn write_counts(counts: &mut [u16], new: &[u16])
     requires { Grown counts.old (get_or new.now count_ties 0) (get_or new.now count_subtypes 0) }
     ensures { counts.new ≡ numbers_on counts.old (get_or new.now count_ties 0) (get_or new.now count_subtypes 0) (write_rows set new.now 0 counts.old) }
 {
-    let ties = cells::at16(counts, COUNT_TIES);
-    let subtypes = cells::at16(counts, COUNT_SUBTYPES);
-    let tied = cells::at16(new, COUNT_TIES);
-    let noted = cells::at16(new, COUNT_SUBTYPES);
+    let ties = cells::at(counts, COUNT_TIES);
+    let subtypes = cells::at(counts, COUNT_SUBTYPES);
+    let tied = cells::at(new, COUNT_TIES);
+    let noted = cells::at(new, COUNT_SUBTYPES);
     entries::write_cells(counts, 0, new);
     store::number_rows(
         counts,
@@ -44,8 +44,8 @@ pub(crate) fn enter(counts: &mut [u16], cache: &mut [u16], n: Newcomer, classes:
     ensures counted { counts.new ≡ counts_with n classes kept counts.old }
     ensures written { cache.new ≡ put_three cache.old (get_or counts.old count_cache 0) n.loader n.name n.class }
 {
-    let row = cells::at16(counts, COUNT_CACHE);
-    entries::put_three(cache, row, cells::from8(n.loader), n.name, n.class);
+    let row = cells::at(counts, COUNT_CACHE);
+    entries::put_three(cache, row, u16::from(n.loader), n.name, n.class);
     entries::remember(counts);
     write_counts(counts, &[classes, kept, row + 1, n.tied, n.noted]);
 }
@@ -63,7 +63,7 @@ pub(crate) fn enter_class(
     ensures counted { counts.new ≡ grouped_with n counts.old ties.now (counts_with n classes kept counts.old) }
     ensures written { cache.new ≡ put_three cache.old (get_or counts.old count_cache 0) n.loader n.name n.class }
 {
-    let tied = cells::at16(counts, COUNT_TIES);
+    let tied = cells::at(counts, COUNT_TIES);
     enter(counts, cache, n, classes, kept);
     if n.tied == tied {
         return;
@@ -89,11 +89,11 @@ pub(crate) fn write_class(
     ensures tied { ties.new ≡ write_rows set new_ties.now 0 ties.old }
     ensures noted { subtypes.new ≡ write_rows set new_subtypes.now 0 subtypes.old }
 {
-    let start = cells::at16(counts, COUNT_KEPT);
+    let start = cells::at(counts, COUNT_KEPT);
     entries::put_three(
         classes,
-        cells::at16(counts, COUNT_CLASSES),
-        cells::from8(loader),
+        cells::at(counts, COUNT_CLASSES),
+        u16::from(loader),
         start,
         file.len() as u16,
     );

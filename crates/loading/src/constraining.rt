@@ -14,7 +14,7 @@ ghost use Rattle.loading.specs.Stages.{room_for, posted_for, placed_after, Decid
 
 use crate::loads::{Newcomer, Plan};
 use crate::overrides::post_methods;
-use cells::at16;
+use cells::at;
 use definition::Refusal;
 use definition::numbers::{
     CACHE_LIMIT, CLASS_LIMIT, COUNT_CACHE, COUNT_CLASSES, COUNT_KEPT, COUNT_TIES, FIELD_LIMIT,
@@ -34,19 +34,19 @@ fn has_room(
     requires { length file.now ≤ file_limit }
     ensures { result ≡ room_for (quick_base counts.now classes.now kept.now cache.now) counts.now file.now p tied }
 {
-    if KEPT_LENGTH < cells::wide16(at16(counts, COUNT_KEPT)) + file.len() {
+    if KEPT_LENGTH < usize::from(at(counts, COUNT_KEPT)) + file.len() {
         return false;
     }
-    if CLASS_LIMIT <= at16(counts, COUNT_CLASSES) {
+    if CLASS_LIMIT <= at(counts, COUNT_CLASSES) {
         return false;
     }
-    if CACHE_LIMIT <= at16(counts, COUNT_CACHE) {
+    if CACHE_LIMIT <= at(counts, COUNT_CACHE) {
         return false;
     }
     if TIE_LIMIT < tied {
         return false;
     }
-    let own = cells::from16(cells::from8(classfile::field_count(file)));
+    let own = u32::from(classfile::field_count(file));
     resolution::size_of(counts, classes, kept, cache, p) + own <= FIELD_LIMIT
 }
 
@@ -76,7 +76,7 @@ pub(crate) fn admit_constraints(
         kept,
         cache,
         new_ties,
-        at16(counts, COUNT_TIES),
+        at(counts, COUNT_TIES),
         loader,
         p,
         file,
@@ -90,7 +90,7 @@ pub(crate) fn admit_constraints(
     Plan::Add(Newcomer {
         loader,
         name: classfile::class_name(file),
-        class: at16(counts, COUNT_CLASSES),
+        class: at(counts, COUNT_CLASSES),
         above: (p + 1) as u8,
         tied,
         noted,

@@ -42,7 +42,7 @@ fn posts_none(counts: &[u16], plan: Plan) -> bool
     match plan {
         Plan::Refuse(_) => true,
         Plan::Keep => true,
-        Plan::Add(n) => n.tied == cells::at16(counts, COUNT_TIES),
+        Plan::Add(n) => n.tied == cells::at(counts, COUNT_TIES),
     }
 }
 

@@ -48,7 +48,7 @@ pub fn boot(
         return Reply::Denied(Refusal::Word(WORD_BROKEN));
     }
     entries::write_cells(counts, 0, &[1, 0, 1, 0, 0, 0, 0, 0]);
-    cells::put16(counts, LOADS_CELL, 0);
+    cells::put(counts, LOADS_CELL, 0);
     entries::put_three(classes, 0, 0, 0, 0);
     entries::put_three(cache, 0, 0, NAME_OBJECT, 0);
     Reply::Accepted
@@ -76,8 +76,8 @@ pub fn drop_task(
     if TASK_LIMIT <= task {
         return Reply::Denied(Refusal::Word(WORD_UNKNOWN));
     }
-    cells::put16(counts, COUNT_FRAMES + cells::wide32(task), 0);
-    cells::put16(counts, LOADS_CELL, 0);
+    cells::put(counts, COUNT_FRAMES + task as usize, 0);
+    cells::put(counts, LOADS_CELL, 0);
     Reply::Accepted
 }
 
@@ -139,8 +139,8 @@ pub fn define(
                 &new_ties[0..TIES_LENGTH],
                 &new_subtypes,
             );
-            let number = cells::at16(counts, COUNT_CLASSES) + 1;
-            let end = cells::at16(counts, COUNT_KEPT) + file.len() as u16;
+            let number = cells::at(counts, COUNT_CLASSES) + 1;
+            let end = cells::at(counts, COUNT_KEPT) + file.len() as u16;
             enter_class(counts, cache, ties, n, number, end);
             reply_of(n)
         }
@@ -188,8 +188,8 @@ pub fn record(
         Plan::Refuse(r) => Reply::Denied(r),
         Plan::Keep => Reply::Accepted,
         Plan::Add(n) => {
-            let number = cells::at16(counts, COUNT_CLASSES);
-            let end = cells::at16(counts, COUNT_KEPT);
+            let number = cells::at(counts, COUNT_CLASSES);
+            let end = cells::at(counts, COUNT_KEPT);
             enter(counts, cache, n, number, end);
             reply_of(n)
         }

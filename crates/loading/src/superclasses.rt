@@ -27,7 +27,7 @@ pub(crate) fn find_super(
 ) -> Above
     ensures { above_of result ≡ super_for (class_of loader (quick_file file.now)) (quick_base counts.now classes.now kept.now cache.now) }
 {
-    let under = cells::from8(loader);
+    let under = u16::from(loader);
     let own = resolution::find(counts, cache, under, classfile::class_name(file));
     let Found::Absent = own else {
         return Above::Refuse(Refusal::Word(WORD_TAKEN));

@@ -6,7 +6,7 @@ ghost use Rattle.loading.specs.Plans.{Sized, NewTried, Judged, Agrees, Decides, 
 
 use crate::carrying::{reply_of, write_counts};
 use crate::loads::{Newcomer, Plan};
-use cells::at16;
+use cells::at;
 use definition::numbers::{
     CACHE_LENGTH, CLASS_LIMIT, COUNT_CACHE, COUNT_CLASSES, COUNT_KEPT, COUNTS_LENGTH, OWNERS_CELL,
     WORD_CLASH,
@@ -31,7 +31,7 @@ fn try_newcomer(
         classes,
         kept,
         cache,
-        cells::from8(n.loader),
+        u16::from(n.loader),
         n.name,
         n.class,
         counted,
@@ -39,7 +39,7 @@ fn try_newcomer(
         supers,
     );
     if n.above != 0 {
-        cells::put8(supers, cells::wide16(n.class), n.above);
+        cells::put(supers, usize::from(n.class), n.above);
     }
 }
 
@@ -65,13 +65,13 @@ fn judge(
     constraints::agreed(constraints::check(
         supers,
         trial,
-        at16(counted, COUNT_CACHE),
+        at(counted, COUNT_CACHE),
         ties,
         n.tied,
         beside,
         subtypes,
         n.noted,
-        at16(counts, COUNT_CACHE),
+        at(counts, COUNT_CACHE),
     ))
 }
 
@@ -175,9 +175,9 @@ fn explain(
     ) {
         return entries::unlisted(reply_of(n));
     }
-    let class = at16(&counted, COUNT_CLASSES);
-    let end = at16(&counted, COUNT_KEPT);
-    let entries = at16(&counted, COUNT_CACHE);
+    let class = at(&counted, COUNT_CLASSES);
+    let end = at(&counted, COUNT_KEPT);
+    let entries = at(&counted, COUNT_CACHE);
     write_counts(&mut counted, &[class, end, entries, n.tied, n.noted]);
     let count = constraints::reason(&supers, &counted, &trial, ties, subtypes, list);
     Trial {

@@ -101,7 +101,7 @@ pub fn tie_number(posting: Posting) -> u16
 {
     match posting {
         Posting::Nothing => 0,
-        Posting::Ties(_, _, names, _) => cells::from8(argument_count(names)) + 1,
+        Posting::Ties(_, _, names, _) => u16::from(argument_count(names)) + 1,
     }
 }
 
@@ -109,7 +109,7 @@ pub fn tie_number(posting: Posting) -> u16
 fn write_tie(ties: &mut [u16], i: u32, one: u8, two: u8, name: u16)
     ensures { ties.new ≡ put_tie ties.old i (tie one two name) }
 {
-    cells::put_three(ties, i, cells::from8(one), cells::from8(two), name);
+    cells::put_three(ties, i, u16::from(one), u16::from(two), name);
 }
 
 // Ties on each of those names in turn, and then on the last, written from row n on; the last is written first.
@@ -119,7 +119,7 @@ fn write_names(ties: &mut [u16], n: u16, one: u8, two: u8, names: Arguments, las
     let mut i = argument_count(names);
     write_tie(
         ties,
-        cells::from16(n) + cells::from16(cells::from8(i)),
+        u32::from(n) + u32::from(i),
         one,
         two,
         last,
@@ -128,7 +128,7 @@ fn write_names(ties: &mut [u16], n: u16, one: u8, two: u8, names: Arguments, las
         i -= 1;
         write_tie(
             ties,
-            cells::from16(n) + cells::from16(cells::from8(i)),
+            u32::from(n) + u32::from(i),
             one,
             two,
             argument_at(names, i),
@@ -156,7 +156,7 @@ pub fn post(ties: &mut [u16], count: u16, one: u8, two: u8, names: Arguments, la
 {
     let posting = new_ties(ties, count, one, two, names, last);
     write_ties(ties, count, posting);
-    cells::from16(count) + cells::from16(tie_number(posting))
+    u32::from(count) + u32::from(tie_number(posting))
 }
 
 // What is posted with a plan: nothing with a refusal.

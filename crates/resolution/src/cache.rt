@@ -15,21 +15,21 @@ use definition::numbers::{COUNT_CACHE, ROW_CELLS};
 fn is_entry(cache: &[u16], i: u16, loader: u16, name: u16) -> bool
     ensures { result ≡ same_request (entry_at cache.now i).request (at loader name) }
 {
-    let place = cells::wide16(i) * ROW_CELLS;
-    cells::at16(cache, place) == loader && cells::at16(cache, place + 1) == name
+    let place = usize::from(i) * ROW_CELLS;
+    cells::at(cache, place) == loader && cells::at(cache, place + 1) == name
 }
 
 fn entry_class(cache: &[u16], i: u16) -> u32
     ensures { result ≡ (entry_at cache.now i).class }
 {
-    cells::from16(cells::at16(cache, cells::wide16(i) * ROW_CELLS + 2))
+    u32::from(cells::at(cache, usize::from(i) * ROW_CELLS + 2))
 }
 
 // The row in which a request stands first; as many as there are rows, if it stands in none.
 pub(crate) fn row_of(counts: &[u16], cache: &[u16], loader: u16, name: u16) -> u16
     ensures { result ≡ row_of (rows (entry_at cache.now) (get_or counts.now count_cache 0) 0) (at loader name) }
 {
-    let n = cells::at16(counts, COUNT_CACHE);
+    let n = cells::at(counts, COUNT_CACHE);
     let mut i: u16 = 0;
     while i < n {
         if is_entry(cache, i, loader, name) {
@@ -44,7 +44,7 @@ pub(crate) fn row_of(counts: &[u16], cache: &[u16], loader: u16, name: u16) -> u
 pub(crate) fn class_in(counts: &[u16], cache: &[u16], i: u16) -> Found
     ensures { result ≡ found (class_in (rows (entry_at cache.now) (get_or counts.now count_cache 0) 0) i) }
 {
-    if i < cells::at16(counts, COUNT_CACHE) {
+    if i < cells::at(counts, COUNT_CACHE) {
         Found::At(entry_class(cache, i))
     } else {
         Found::Absent

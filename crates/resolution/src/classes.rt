@@ -20,14 +20,14 @@ const CLASSES: u8 = CLASS_LIMIT as u8;
 fn row_cell(classes: &[u16], c: u32, cell: u8) -> u16
     ensures { result ≡ get_or classes.now (c * row_cells + cell) 0 }
 {
-    cells::at16(classes, cells::wide32(c) * ROW_CELLS + cells::wide8(cell))
+    cells::at(classes, c as usize * ROW_CELLS + usize::from(cell))
 }
 
 // Whether there is a class of that number.
 pub fn is_class(counts: &[u16], c: u32) -> bool
     ensures { result ≡ ltb c (get_or counts.now count_classes 0) }
 {
-    c < cells::from16(cells::at16(counts, COUNT_CLASSES))
+    c < u32::from(cells::at(counts, COUNT_CLASSES))
 }
 
 // The loader of a class, 0 if there is none of that number.
@@ -70,7 +70,7 @@ pub fn super_row(counts: &[u16], classes: &[u16], kept: &[u8], cache: &[u16], c:
     ensures { result ≡ super_row (quick_base counts.now classes.now kept.now cache.now) c }
 {
     if !is_class(counts, c) {
-        return cells::at16(counts, COUNT_CACHE);
+        return cells::at(counts, COUNT_CACHE);
     }
     let name = classfile::super_name(file_of(counts, classes, kept, c));
     row_of(counts, cache, row_cell(classes, c, 0), name)
@@ -113,7 +113,7 @@ pub fn is_below(counts: &[u16], classes: &[u16], kept: &[u8], cache: &[u16], c: 
 fn super_cell(counts: &[u16], classes: &[u16], kept: &[u8], cache: &[u16], c: u8) -> u8
     ensures { result ≡ super_cell (quick_base counts.now classes.now kept.now cache.now) c }
 {
-    let n = cells::from16(cells::from8(c));
+    let n = u32::from(c);
     if !is_class(counts, n) {
         return 0;
     }
@@ -130,9 +130,9 @@ pub fn fill_supers(supers: &mut [u8], counts: &[u16], classes: &[u16], kept: &[u
     let mut i: u8 = CLASSES;
     while 0 < i {
         i -= 1;
-        cells::put8(
+        cells::put(
             supers,
-            cells::wide8(i),
+            usize::from(i),
             super_cell(counts, classes, kept, cache, i),
         );
     }

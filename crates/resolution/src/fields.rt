@@ -60,7 +60,7 @@ pub fn nearest_field(
 fn own_size(counts: &[u16], classes: &[u16], kept: &[u8], c: u32) -> u32
     ensures { (result ≡ field_count (file_in counts.now classes.now kept.now c)) × (result < byte_range) }
 {
-    cells::from16(cells::from8(classfile::field_count(file_of(counts, classes, kept, c))))
+    u32::from((classfile::field_count(file_of(counts, classes, kept, c))))
 }
 
 // How many fields an object of a class has, the inherited ones included.
@@ -110,7 +110,7 @@ pub fn slot_of(
     ) else {
         return Found::Absent;
     };
-    Found::At(inherited(counts, classes, kept, cache, d) + cells::from16(cells::from8(i)))
+    Found::At(inherited(counts, classes, kept, cache, d) + u32::from(i))
 }
 
 // The types of a file's fields, written from a place on.
@@ -120,9 +120,9 @@ fn write_types(types: &mut [u16], start: u32, file: &[u8])
     let mut i = classfile::field_count(file);
     while 0 < i {
         i -= 1;
-        cells::put16(
+        cells::put(
             types,
-            cells::wide32(start) + cells::wide8(i),
+            start as usize + usize::from(i),
             classfile::field_type(file, i),
         );
     }

@@ -22,7 +22,7 @@ fn method_index(counts: &[u16], classes: &[u16], kept: &[u8], c: u32, s: Signatu
     let MethodFound::At(j, _) = classfile::find_method(file_of(counts, classes, kept, c), s) else {
         return Found::Absent;
     };
-    Found::At(cells::from16(cells::from8(j)))
+    Found::At(u32::from(j))
 }
 
 // The one search for a method: the nearest class upward of c, c included, that declares a method alike, and the method's place there.

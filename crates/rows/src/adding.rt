@@ -7,7 +7,7 @@ ghost use Rattle.definition.specs.Loading.{subtype_is};
 ghost use Rattle.definition.specs.Tables.{tie_at, subtype_at};
 ghost use Rattle.rows.specs.Posting.{new_subtypes_in, note, subtypes_after, noted, post_note};
 
-use cells::{at16, from8, from16, put_three, wide16};
+use cells::{at, put_three};
 use definition::numbers::{ROW_CELLS, SUBTYPE_LIMIT};
 
 // Two cells are equal to these two.
@@ -22,11 +22,11 @@ fn tie_is(ties: &[u16], i: usize, one: u8, two: u8, name: u16) -> bool
     requires { i < short_range }
     ensures { result ≡ tie_is one two name (tie_at ties.now i) }
 {
-    let first = at16(ties, i * ROW_CELLS);
-    let second = at16(ties, i * ROW_CELLS + 1);
-    let near = from8(one);
-    let far = from8(two);
-    if at16(ties, i * ROW_CELLS + 2) != name {
+    let first = at(ties, i * ROW_CELLS);
+    let second = at(ties, i * ROW_CELLS + 1);
+    let near = u16::from(one);
+    let far = u16::from(two);
+    if at(ties, i * ROW_CELLS + 2) != name {
         return false;
     }
     if are_equal(first, second, near, far) {
@@ -39,7 +39,7 @@ fn tie_is(ties: &[u16], i: usize, one: u8, two: u8, name: u16) -> bool
 pub fn tie_known(ties: &[u16], count: u16, one: u8, two: u8, name: u16) -> bool
     ensures { result ≡ any (tie_is one two name) (rows (tie_at ties.now) count 0) }
 {
-    let n = wide16(count);
+    let n = usize::from(count);
     let mut i = 0;
     while i < n {
         if tie_is(ties, i, one, two, name) {
@@ -55,10 +55,10 @@ fn subtype_is(subtypes: &[u16], i: usize, loader: u8, low: u16, high: u16) -> bo
     requires { i < short_range }
     ensures { result ≡ subtype_is loader (note low high) (subtype_at subtypes.now i) }
 {
-    let first = at16(subtypes, i * ROW_CELLS + 1);
-    let second = at16(subtypes, i * ROW_CELLS + 2);
+    let first = at(subtypes, i * ROW_CELLS + 1);
+    let second = at(subtypes, i * ROW_CELLS + 2);
     if are_equal(first, second, low, high) {
-        at16(subtypes, i * ROW_CELLS) == from8(loader)
+        at(subtypes, i * ROW_CELLS) == u16::from(loader)
     } else {
         false
     }
@@ -68,7 +68,7 @@ fn subtype_is(subtypes: &[u16], i: usize, loader: u8, low: u16, high: u16) -> bo
 pub fn subtype_known(subtypes: &[u16], count: u16, loader: u8, low: u16, high: u16) -> bool
     ensures { result ≡ any (subtype_is loader (note low high)) (rows (subtype_at subtypes.now) count 0) }
 {
-    let mut i = wide16(count);
+    let mut i = usize::from(count);
     while 0 < i {
         i -= 1;
         if subtype_is(subtypes, i, loader, low, high) {
@@ -83,11 +83,11 @@ fn add_subtype(subtypes: &mut [u16], count: u16, loader: u8, low: u16, high: u16
     ensures value { result ≡ count + length (new_subtypes_in subtypes.old count loader (note low high ∷ [])) }
     ensures subtypes_after { subtypes.new ≡ subtypes_after subtypes.old count (new_subtypes_in subtypes.old count loader (note low high ∷ [])) }
 {
-    let rows = from16(count);
+    let rows = u32::from(count);
     if subtype_known(subtypes, count, loader, low, high) {
         return rows;
     }
-    put_three(subtypes, rows, from8(loader), low, high);
+    put_three(subtypes, rows, u16::from(loader), low, high);
     rows + 1
 }
 

@@ -6,7 +6,7 @@ ghost use Rattle.definition.specs.Tables.{number_at};
 ghost use Rattle.cells.specs.Held.{Held};
 ghost use Rattle.rows.specs.Numbers.{standing, numbers_fit};
 
-use cells::{at16, held16, wide16};
+use cells::{at, held};
 use definition::numbers::{
     COUNT_SUBTYPES, COUNT_TIES, SHORT_RANGE, SUBTYPE_NUMBERS_CELL, TIE_NUMBERS_CELL,
 };
@@ -20,7 +20,7 @@ fn number_at(counts: &[u16], first: usize, held: usize, n: usize, i: usize) -> u
     ensures { result ≡ standing (rows (number_at first counts.now) (n - i) i) }
 {
     if i < held {
-        return wide16(counts[first + i]);
+        return usize::from(counts[first + i]);
     }
     if i < n { 0 } else { NO_NUMBER }
 }
@@ -29,10 +29,10 @@ fn number_at(counts: &[u16], first: usize, held: usize, n: usize, i: usize) -> u
 pub fn numbers_fit(counts: &[u16]) -> bool
     ensures { result ≡ numbers_fit counts.now }
 {
-    let ties = wide16(at16(counts, COUNT_TIES));
-    let subtypes = wide16(at16(counts, COUNT_SUBTYPES));
-    let ties_held = held16(counts, TIE_NUMBERS_CELL, ties);
-    let subtypes_held = held16(counts, SUBTYPE_NUMBERS_CELL, subtypes);
+    let ties = usize::from(at(counts, COUNT_TIES));
+    let subtypes = usize::from(at(counts, COUNT_SUBTYPES));
+    let ties_held = held(counts, TIE_NUMBERS_CELL, ties);
+    let subtypes_held = held(counts, SUBTYPE_NUMBERS_CELL, subtypes);
     let mut t = 0;
     let mut s = 0;
     let mut k = 0;

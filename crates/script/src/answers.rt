@@ -11,9 +11,9 @@ fn refusal_details(task: u8, refusal: Refusal) -> Details
     match refusal {
         Refusal::Wanted(loader, name) => Details {
             refusal: WORD_WANTED,
-            one: cells::from16(cells::from8(loader)),
-            two: cells::from16(name),
-            three: cells::from16(cells::from8(task)),
+            one: u32::from(loader),
+            two: u32::from(name),
+            three: u32::from(task),
         },
         Refusal::Word(number) => Details {
             refusal: number,
@@ -37,13 +37,13 @@ fn step_details(turn: u8, answer: Answer) -> Details
         Answer::Ran(task) => Details {
             refusal: 0,
             one: 1,
-            two: cells::from16(cells::from8(task)),
+            two: u32::from(task),
             three: 0,
         },
         Answer::Finished(task, int) => Details {
             refusal: 0,
             one: 2,
-            two: cells::from16(cells::from8(task)),
+            two: u32::from(task),
             three: int,
         },
         Answer::Refused(refusal) => refusal_details(turn, refusal),
@@ -63,7 +63,7 @@ pub fn details_of(turn: u8, reply: Reply) -> Details
         },
         Reply::Defined(class) => Details {
             refusal: 0,
-            one: cells::from16(cells::from8(class)),
+            one: u32::from(class),
             two: 0,
             three: 0,
         },
@@ -72,7 +72,7 @@ pub fn details_of(turn: u8, reply: Reply) -> Details
         Reply::Denied(refusal) => refusal_details(0, refusal),
         Reply::Swept(freed) => Details {
             refusal: 0,
-            one: cells::from16(freed),
+            one: u32::from(freed),
             two: 0,
             three: 0,
         },

@@ -59,8 +59,8 @@ fn byte_at(s: &[u8], i: usize) -> u8
     requires { i + 1 < length s.now }
     ensures { result ≡ pair_value s.now i }
 {
-    let high = cells::wide8(hex_value(s[i]));
-    let low = cells::wide8(hex_value(s[i + 1]));
+    let high = usize::from(hex_value(s[i]));
+    let low = usize::from(hex_value(s[i + 1]));
     ((high * 16 + low) % BYTES) as u8
 }
 
@@ -71,7 +71,7 @@ pub(crate) fn decode(s: &[u8], file: &mut [u8])
     let n = s.len() / 2;
     let mut i = 0;
     while i < n {
-        cells::put8(file, i, byte_at(s, i * 2));
+        cells::put(file, i, byte_at(s, i * 2));
         i += 1;
     }
 }

@@ -23,8 +23,8 @@ fn extend(n: u32, digit: u8, most: u32) -> Number
     if 57 < digit {
         return Number::NoNumber;
     }
-    let next = cells::wide32(n) * 10 + cells::wide8(digit - 48);
-    if cells::wide32(most) < next {
+    let next = n as usize * 10 + usize::from(digit - 48);
+    if (most as usize) < next {
         return Number::NoNumber;
     }
     Number::Value(next as u32)
@@ -64,13 +64,13 @@ fn negative(x: Number) -> Number
     let Number::Value(n) = x else {
         return Number::NoNumber;
     };
-    Number::Value(((INT_RANGE - cells::wide32(n)) % INT_RANGE) as u32)
+    Number::Value(((INT_RANGE - n as usize) % INT_RANGE) as u32)
 }
 
 pub(crate) fn int_number(s: &[u8]) -> Number
     ensures { result ≡ number_is (int s.now) }
 {
-    if cells::at8(s, 0) == 45 {
+    if cells::at(s, 0) == 45 {
         return negative(up_to(after(s, 1), SIGN_BIT));
     }
     up_to(s, MOST_INT)

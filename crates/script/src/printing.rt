@@ -12,15 +12,15 @@ fn put_digits(out: &mut [u8], at: usize, more: u8, n: u32) -> usize
     ensures { Wrote (printed more n) at result out.old out.new }
 {
     if more == 0 {
-        cells::put8(out, at, (48 + n % 10) as u8);
+        cells::put(out, at, (48 + n % 10) as u8);
         return at + 1;
     }
     if n < 10 {
-        cells::put8(out, at, (48 + n) as u8);
+        cells::put(out, at, (48 + n) as u8);
         return at + 1;
     }
     let next = put_digits(out, at, more - 1, n / 10);
-    cells::put8(out, next, (48 + n % 10) as u8);
+    cells::put(out, next, (48 + n % 10) as u8);
     next + 1
 }
 
@@ -29,7 +29,7 @@ fn put_number(out: &mut [u8], at: usize, n: u32) -> usize
     requires { at < 64 }
     ensures { Wrote (32 ∷ printed_int (pos n)) at result out.old out.new }
 {
-    cells::put8(out, at, 32);
+    cells::put(out, at, 32);
     put_digits(out, at + 1, 9, n)
 }
 
@@ -41,8 +41,8 @@ fn put_int(out: &mut [u8], at: usize, bits: u32) -> usize
     if bits < SIGN_BIT {
         return put_number(out, at, bits);
     }
-    cells::put8(out, at, 32);
-    cells::put8(out, at + 1, 45);
+    cells::put(out, at, 32);
+    cells::put(out, at + 1, 45);
     put_digits(out, at + 2, 9, 4294967295 - bits + 1)
 }
 
@@ -50,11 +50,11 @@ fn put_int(out: &mut [u8], at: usize, bits: u32) -> usize
 pub fn print_line(out: &mut [u8], letter: u8, refusal: u8, one: u32, two: u32, three: u32) -> usize
     ensures { Printed (line_of letter refusal one two three) result out.old out.new }
 {
-    cells::put8(out, 0, letter);
-    let a = put_number(out, 1, cells::from16(cells::from8(refusal)));
+    cells::put(out, 0, letter);
+    let a = put_number(out, 1, u32::from(refusal));
     let b = put_number(out, a, one);
     let c = put_number(out, b, two);
     let d = put_int(out, c, three);
-    cells::put8(out, d, 10);
+    cells::put(out, d, 10);
     d + 1
 }

@@ -112,11 +112,11 @@ pub fn read_line(line: &[u8], file: &mut [u8]) -> Command
     if 65536 < n {
         return Command::Unreadable;
     }
-    let letter = cells::at8(line, 0);
+    let letter = cells::at(line, 0);
     if n == 1 {
         return read_single(letter);
     }
-    if cells::at8(line, 1) != 32 {
+    if cells::at(line, 1) != 32 {
         return Command::Unreadable;
     }
     read_call(letter, after(line, 2), file)

@@ -8,7 +8,7 @@ ghost use Rattle.definition.specs.Tables.{entry_at};
 ghost use Rattle.searching.specs.Could.{could_keep, could_define, could_at};
 
 use crate::offers::file_of;
-use cells::{at16, at32, from16, wide16};
+use cells::at;
 use definition::numbers::{COUNT_KEPT, FILE_LIMIT, KEPT_LENGTH, LOADER_LIMIT, OFFER_CELLS};
 
 fn is_cached(counts: &[u16], cache: &[u16], loader: u16, name: u16) -> bool
@@ -27,7 +27,7 @@ fn could_keep(counts: &[u16], file: &[u8]) -> bool
     if FILE_LIMIT < file.len() {
         return false;
     }
-    wide16(at16(counts, COUNT_KEPT)) + file.len() <= KEPT_LENGTH
+    usize::from(at(counts, COUNT_KEPT)) + file.len() <= KEPT_LENGTH
 }
 
 // A define of the file by that loader: its bytes can be kept, its superclass is cached under the loader, and its own name isn't.
@@ -59,14 +59,14 @@ pub(crate) fn could_load(
     requires { i < short_range }
     ensures { result ≡ could_at counts.now classes.now kept.now cache.now offers.now files.now i }
 {
-    if at32(offers, i * OFFER_CELLS) == 1 {
+    if at(offers, i * OFFER_CELLS) == 1 {
         return could_define(
             counts,
             cache,
-            at32(offers, i * OFFER_CELLS + 1),
+            at(offers, i * OFFER_CELLS + 1),
             file_of(offers, files, i),
         );
     }
-    let own = resolution::name_of(counts, classes, kept, at32(offers, i * OFFER_CELLS + 3));
-    from16(own) == at32(offers, i * OFFER_CELLS + 2)
+    let own = resolution::name_of(counts, classes, kept, at(offers, i * OFFER_CELLS + 3));
+    u32::from(own) == at(offers, i * OFFER_CELLS + 2)
 }

@@ -7,7 +7,7 @@ ghost use Rattle.definition.specs.Offers.{offer_at, offers_in};
 ghost use Rattle.classfile.specs.Reading.{part_of};
 ghost use Rattle.searching.specs.Offered.{is_for_at};
 
-use cells::{at32, wide32};
+use cells::at;
 use definition::numbers::{OFFER_CELLS, OFFER_LIMIT, SHORT_RANGE};
 
 // Kinds of rows.
@@ -21,10 +21,10 @@ fn is_offer(offers: &[u32], files: &[u8], i: usize) -> bool
     ensures { result ≡ is_some (offer_at offers.now files.now i) }
 {
     let place = i * OFFER_CELLS;
-    let kind = at32(offers, place);
-    let third = at32(offers, place + 2);
+    let kind = at(offers, place);
+    let third = at(offers, place + 2);
     if kind == DEFINE {
-        return wide32(third) + wide32(at32(offers, place + 3)) <= files.len();
+        return third as usize + (at(offers, place + 3) as usize) <= files.len();
     }
     kind == RECORD && third < SHORT_RANGE
 }
@@ -55,8 +55,8 @@ pub(crate) fn file_of<'a>(offers: &[u32], files: &'a [u8], i: usize) -> &'a [u8]
     requires { i < short_range }
     ensures { result.now ≡ part_of files.now (get_or offers.now (i * 4 + 2) 0) (get_or offers.now (i * 4 + 3) 0) }
 {
-    let start = wide32(at32(offers, i * OFFER_CELLS + 2));
-    let end = start + wide32(at32(offers, i * OFFER_CELLS + 3));
+    let start = at(offers, i * OFFER_CELLS + 2) as usize;
+    let end = start + at(offers, i * OFFER_CELLS + 3) as usize;
     if end <= files.len() {
         &files[start..end]
     } else {
@@ -69,11 +69,11 @@ pub(crate) fn is_for(offers: &[u32], files: &[u8], i: usize, loader: u32, name: 
     requires { i < short_range }
     ensures { result ≡ is_for_at offers.now files.now (at loader name) i }
 {
-    if at32(offers, i * OFFER_CELLS + 1) != loader {
+    if at(offers, i * OFFER_CELLS + 1) != loader {
         return false;
     }
-    if at32(offers, i * OFFER_CELLS) == DEFINE {
+    if at(offers, i * OFFER_CELLS) == DEFINE {
         return classfile::class_name(file_of(offers, files, i)) == name;
     }
-    at32(offers, i * OFFER_CELLS + 2) == cells::from16(name)
+    at(offers, i * OFFER_CELLS + 2) == u32::from(name)
 }

@@ -5,7 +5,6 @@ ghost use Rattle.definition.specs.Calls.{perform_all};
 ghost use Rattle.searching.specs.Replayed.{numbers_in, loads_at};
 
 use crate::trying::load_one;
-use cells::wide32;
 
 // The first n offers of that order, whatever their loads answer.
 pub(crate) fn replay(
@@ -38,7 +37,7 @@ pub(crate) fn replay(
             frames,
             offers,
             files,
-            wide32(rest % 8),
+            (rest % 8) as usize,
         );
         rest = rest / 8;
         k += 1;

@@ -19,7 +19,6 @@ use crate::offers::{is_for, read_offers};
 use crate::replaying::replay;
 use crate::shortest::shortest;
 use crate::{Fewest, Finding};
-use cells::from16;
 use copying::fill;
 use definition::Refusal;
 use definition::numbers::{
@@ -116,7 +115,7 @@ fn is_any_for(offers: &[u32], files: &[u8], loader: u16, name: u16) -> bool
     let n = offers.len() / OFFER_CELLS;
     let mut i = 0;
     while i < n {
-        if is_for(offers, files, i, from16(loader), name) {
+        if is_for(offers, files, i, u32::from(loader), name) {
             return true;
         }
         i += 1;

@@ -16,7 +16,6 @@ ghost use Rattle.searching.specs.Ordering.{is_taken, taken_of, is_tried_at, orde
 use crate::Ordered;
 use crate::asking::could_load;
 use crate::offers::{file_of, is_for};
-use cells::from16;
 use copying::{copy8, copy16};
 use definition::Reply;
 use definition::numbers::{COUNTS_LENGTH, OFFER_CELLS, OFFER_LIMIT};
@@ -52,8 +51,8 @@ pub(crate) fn load_one(
     requires { i < short_range }
     ensures { done result (tables counts.new classes.new kept.new cache.new ties.new subtypes.new objects.now frames.now) ≡ taken_of (perform (call_rows (load_call (load_at offers.now files.now i))) (tables counts.old classes.old kept.old cache.old ties.old subtypes.old objects.now frames.now)) }
 {
-    let loader = cells::at32(offers, i * OFFER_CELLS + 1);
-    if cells::at32(offers, i * OFFER_CELLS) == 1 {
+    let loader = cells::at(offers, i * OFFER_CELLS + 1);
+    if cells::at(offers, i * OFFER_CELLS) == 1 {
         return is_taken(loading::define(
             counts,
             classes,
@@ -77,8 +76,8 @@ pub(crate) fn load_one(
         objects,
         frames,
         loader,
-        cells::at32(offers, i * OFFER_CELLS + 2),
-        cells::at32(offers, i * OFFER_CELLS + 3),
+        cells::at(offers, i * OFFER_CELLS + 2),
+        cells::at(offers, i * OFFER_CELLS + 3),
     ))
 }
 
@@ -95,10 +94,10 @@ fn is_tried(
     requires { i < short_range }
     ensures { result ≡ (eqb (get_or used.now i 0) 0 && is_tried_at offers.now files.now (at loader name) n i) }
 {
-    if cells::at8(used, i) != 0 {
+    if cells::at(used, i) != 0 {
         return false;
     }
-    if is_for(offers, files, i, from16(loader), name) {
+    if is_for(offers, files, i, u32::from(loader), name) {
         n == 0
     } else {
         n != 0
@@ -190,7 +189,7 @@ fn try_one(
     }
     let mut next = [0u8; OFFER_LIMIT];
     copy8(used, &mut next);
-    cells::put8(&mut next, i, 1);
+    cells::put(&mut next, i, 1);
     let rest = order_of(
         counts, classes, kept, cache, ties, subtypes, objects, frames, offers, files, loader, name,
         n, &next,

@@ -32,12 +32,12 @@ fn linked_size(
     requires { Sized (quick_base counts.now classes.now kept.now cache.now) c sizes.now × (row ≡ super_row (quick_base counts.now classes.now kept.now cache.now) c) }
     ensures { result ≡ linked_size (quick_base counts.now classes.now kept.now cache.now) c }
 {
-    let number = cells::from16(c);
+    let number = u32::from(c);
     let Found::At(p) = resolution::super_by(counts, cache, number, row) else {
         return Fields::Unfit;
     };
     let own = classfile::field_count(resolution::file_of(counts, classes, kept, number));
-    let size = cells::wide8(cells::at8(sizes, cells::wide32(p))) + cells::wide8(own);
+    let size = usize::from(cells::at(sizes, p as usize)) + usize::from(own);
     if FIELDS < size {
         return Fields::Unfit;
     }
@@ -56,16 +56,16 @@ fn links_fit(
     requires { Blank sizes.old × Blank ends.old × (get_or counts.now count_classes 0 ≤ class_limit) × (get_or counts.now count_cache 0 ≤ cache_limit) × (size_of (quick_base counts.now classes.now kept.now cache.now) 0 ≡ 0) }
     ensures { (result ≡ links_fit (quick_base counts.now classes.now kept.now cache.now) (get_or counts.now count_classes 0)) × (result ≡ true → Sized (quick_base counts.now classes.now kept.now cache.now) (get_or counts.now count_classes 0) sizes.new × Ended (quick_base counts.now classes.now kept.now cache.now) ends.new) }
 {
-    cells::put8(sizes, 0, 0);
-    let n = cells::at16(counts, COUNT_CLASSES);
+    cells::put(sizes, 0, 0);
+    let n = cells::at(counts, COUNT_CLASSES);
     let mut c: u16 = 1;
     while c < n {
-        let row = resolution::super_row(counts, classes, kept, cache, cells::from16(c));
+        let row = resolution::super_row(counts, classes, kept, cache, u32::from(c));
         let Fields::Count(size) = linked_size(sizes, counts, classes, kept, cache, c, row) else {
             return false;
         };
-        cells::put8(sizes, cells::wide16(c), size);
-        cells::put16(ends, cells::wide16(c), row + 1);
+        cells::put(sizes, usize::from(c), size);
+        cells::put(ends, usize::from(c), row + 1);
         c += 1;
     }
     true

@@ -57,7 +57,7 @@ pub fn is_shaped(
 fn is_within(counts: &[u16], i: usize, limit: u16) -> bool
     ensures { result ≡ leb (get_or counts.now i 0) limit }
 {
-    cells::at16(counts, i) <= limit
+    cells::at(counts, i) <= limit
 }
 
 pub(crate) fn are_within(counts: &[u16]) -> bool

@@ -11,13 +11,13 @@ const NUMBERS: usize = TIE_LIMIT as usize + SUBTYPE_LIMIT as usize;
 pub fn number_rows(counts: &mut [u16], first: u16, row: u16, k: u16, n: u16)
     ensures { counts.new ≡ numbered_rows first row k n counts.old }
 {
-    if NUMBERS < cells::wide16(k) + cells::wide16(n) {
+    if NUMBERS < usize::from(k) + usize::from(n) {
         return;
     }
-    let start = cells::wide16(first) + cells::wide16(row);
+    let start = usize::from(first) + usize::from(row);
     let mut i = n;
     while 0 < i {
         i -= 1;
-        cells::put16(counts, start + cells::wide16(i), k + i);
+        cells::put(counts, start + usize::from(i), k + i);
     }
 }

@@ -16,25 +16,25 @@ const LOADERS: u16 = LOADER_LIMIT as u16;
 fn is_object(classes: &[u16]) -> bool
     ensures { result ≡ is_object (class_row_at classes.now 0) }
 {
-    if cells::at16(classes, 0) != 0 {
+    if cells::at(classes, 0) != 0 {
         return false;
     }
-    if cells::at16(classes, 1) != 0 {
+    if cells::at(classes, 1) != 0 {
         return false;
     }
-    cells::at16(classes, 2) == 0
+    cells::at(classes, 2) == 0
 }
 
 fn file_fits(counts: &[u16], classes: &[u16], kept: &[u8], c: u16) -> bool
     ensures { result ≡ file_fits (get_or counts.now count_kept 0) kept.now (class_row_at classes.now c) }
 {
-    let place = cells::wide16(c) * ROW_CELLS;
-    if LOADERS <= cells::at16(classes, place) {
+    let place = usize::from(c) * ROW_CELLS;
+    if LOADERS <= cells::at(classes, place) {
         return false;
     }
-    let start = cells::at16(classes, place + 1);
-    let size = cells::at16(classes, place + 2);
-    if cells::wide16(cells::at16(counts, COUNT_KEPT)) < cells::wide16(start) + cells::wide16(size) {
+    let start = cells::at(classes, place + 1);
+    let size = cells::at(classes, place + 2);
+    if usize::from(cells::at(counts, COUNT_KEPT)) < usize::from(start) + usize::from(size) {
         return false;
     }
     classfile::reads(classfile::part(kept, start, size))
@@ -44,7 +44,7 @@ fn file_fits(counts: &[u16], classes: &[u16], kept: &[u8], c: u16) -> bool
 pub(crate) fn sources_fit(counts: &[u16], classes: &[u16], kept: &[u8]) -> bool
     ensures { result ≡ sources_fit (get_or counts.now count_kept 0) kept.now (rows (class_row_at classes.now) (get_or counts.now count_classes 0) 0) }
 {
-    let n = cells::at16(counts, COUNT_CLASSES);
+    let n = cells::at(counts, COUNT_CLASSES);
     if n == 0 {
         return true;
     }
@@ -64,18 +64,18 @@ pub(crate) fn sources_fit(counts: &[u16], classes: &[u16], kept: &[u8]) -> bool
 fn entry_fits(cache: &[u16], classes: u16, i: u16) -> bool
     ensures { result ≡ entry_fits classes (entry_at cache.now i) }
 {
-    let place = cells::wide16(i) * ROW_CELLS;
-    if LOADERS <= cells::at16(cache, place) {
+    let place = usize::from(i) * ROW_CELLS;
+    if LOADERS <= cells::at(cache, place) {
         return false;
     }
-    cells::at16(cache, place + 2) < classes
+    cells::at(cache, place + 2) < classes
 }
 
 fn entries_fit(counts: &[u16], cache: &[u16]) -> bool
     ensures { result ≡ all (entry_fits (get_or counts.now count_classes 0)) (rows (entry_at cache.now) (get_or counts.now count_cache 0) 0) }
 {
-    let classes = cells::at16(counts, COUNT_CLASSES);
-    let n = cells::at16(counts, COUNT_CACHE);
+    let classes = cells::at(counts, COUNT_CLASSES);
+    let n = cells::at(counts, COUNT_CACHE);
     let mut i: u16 = 0;
     while i < n {
         if !entry_fits(cache, classes, i) {
@@ -89,13 +89,13 @@ fn entries_fit(counts: &[u16], cache: &[u16]) -> bool
 fn subtype_fits(subtypes: &[u16], i: u16) -> bool
     ensures { result ≡ subtype_fits (subtype_at subtypes.now i) }
 {
-    cells::at16(subtypes, cells::wide16(i) * ROW_CELLS) < LOADERS
+    cells::at(subtypes, usize::from(i) * ROW_CELLS) < LOADERS
 }
 
 fn subtypes_fit(counts: &[u16], subtypes: &[u16]) -> bool
     ensures { result ≡ all subtype_fits (rows (subtype_at subtypes.now) (get_or counts.now count_subtypes 0) 0) }
 {
-    let n = cells::at16(counts, COUNT_SUBTYPES);
+    let n = cells::at(counts, COUNT_SUBTYPES);
     let mut i: u16 = 0;
     while i < n {
         if !subtype_fits(subtypes, i) {

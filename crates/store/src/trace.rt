@@ -27,11 +27,11 @@ fn files_end(classes: &[u16], from: u16, to: u16, most: usize) -> usize
     let mut end = most;
     let mut c = from;
     while c < to {
-        let place = cells::wide16(c) * ROW_CELLS;
+        let place = usize::from(c) * ROW_CELLS;
         end = greater(
             end,
-            cells::wide16(cells::at16(classes, place + 1))
-                + cells::wide16(cells::at16(classes, place + 2)),
+            usize::from(cells::at(classes, place + 1))
+                + usize::from(cells::at(classes, place + 2)),
         );
         c += 1;
     }
@@ -45,7 +45,7 @@ fn supers_end(ends: &[u16], from: u16, to: u16, most: usize) -> usize
     let mut end = most;
     let mut c = from;
     while c < to {
-        end = greater(end, cells::wide16(cells::at16(ends, cells::wide16(c))));
+        end = greater(end, usize::from(cells::at(ends, usize::from(c))));
         c += 1;
     }
     end
@@ -58,8 +58,8 @@ fn entries_end(cache: &[u16], from: u16, to: u16, most: usize) -> usize
     let mut end = most;
     let mut i = from;
     while i < to {
-        let place = cells::wide16(i) * ROW_CELLS + 2;
-        end = greater(end, cells::wide16(cells::at16(cache, place)) + 1);
+        let place = usize::from(i) * ROW_CELLS + 2;
+        end = greater(end, usize::from(cells::at(cache, place)) + 1);
         i += 1;
     }
     end
@@ -69,16 +69,16 @@ fn entries_end(cache: &[u16], from: u16, to: u16, most: usize) -> usize
 fn object_end(counts: &[u16], objects: &[u32], o: u16) -> usize
     ensures { result ≡ object_end counts.now objects.now o }
 {
-    if cells::at16(counts, OWNERS_CELL + cells::wide16(o)) == 0 {
+    if cells::at(counts, OWNERS_CELL + usize::from(o)) == 0 {
         return 0;
     }
-    cells::wide32(cells::at32(objects, cells::wide16(o) * OBJECT_CELLS)) + 1
+    cells::at(objects, usize::from(o) * OBJECT_CELLS) as usize + 1
 }
 
 fn objects_end(counts: &[u16], objects: &[u32]) -> usize
     ensures { result ≡ highest (object_end counts.now objects.now) 0 (get_or counts.now count_objects 0) 0 }
 {
-    let n = cells::at16(counts, COUNT_OBJECTS);
+    let n = cells::at(counts, COUNT_OBJECTS);
     let mut end = 0;
     let mut o: u16 = 0;
     while o < n {
@@ -92,13 +92,13 @@ fn objects_end(counts: &[u16], objects: &[u32]) -> usize
 fn frames_end(counts: &[u16], frames: &[u32], task: u8, most: usize) -> usize
     ensures { result ≡ highest (frame_end frames.now task) 0 (get_or counts.now (count_frames + task) 0) most }
 {
-    let n = cells::at16(counts, COUNT_FRAMES + cells::wide8(task));
-    let first = cells::wide8(task) * TASK_ROWS;
+    let n = cells::at(counts, COUNT_FRAMES + usize::from(task));
+    let first = usize::from(task) * TASK_ROWS;
     let mut end = most;
     let mut i: u16 = 0;
     while i < n {
-        let place = (first + cells::wide16(i)) * FRAME_CELLS;
-        end = greater(end, cells::wide32(cells::at32(frames, place)) + 1);
+        let place = (first + usize::from(i)) * FRAME_CELLS;
+        end = greater(end, cells::at(frames, place) as usize + 1);
         i += 1;
     }
     end
@@ -121,19 +121,19 @@ fn is_under(counts: &[u16], place: usize, above: usize) -> bool
     requires { (place < int_range) × (above < int_range) }
     ensures { result ≡ under (level_from counts.now place) (level_from counts.now above) }
 {
-    if cells::at16(counts, above) < cells::at16(counts, place) {
+    if cells::at(counts, above) < cells::at(counts, place) {
         return false;
     }
-    if cells::at16(counts, above + 1) < cells::at16(counts, place + 1) {
+    if cells::at(counts, above + 1) < cells::at(counts, place + 1) {
         return false;
     }
-    if cells::at16(counts, above + 2) < cells::at16(counts, place + 2) {
+    if cells::at(counts, above + 2) < cells::at(counts, place + 2) {
         return false;
     }
-    if cells::at16(counts, above + 3) < cells::at16(counts, place + 3) {
+    if cells::at(counts, above + 3) < cells::at(counts, place + 3) {
         return false;
     }
-    cells::at16(counts, place + 4) <= cells::at16(counts, above + 4)
+    cells::at(counts, place + 4) <= cells::at(counts, above + 4)
 }
 
 // Each level lies under the next, the latest under the counts.
@@ -144,7 +144,7 @@ fn levels_fall(counts: &[u16], loads: u16) -> bool
     let mut i = loads;
     while 0 < i {
         i -= 1;
-        let place = TRACE_CELL + cells::wide16(i) * LEVEL_CELLS;
+        let place = TRACE_CELL + usize::from(i) * LEVEL_CELLS;
         if !is_under(counts, place, above) {
             return false;
         }
@@ -161,20 +161,20 @@ fn last_below(counts: &[u16], first: usize, n: u16, k: usize) -> bool
     if n == 0 {
         return true;
     }
-    cells::wide16(cells::at16(counts, first + cells::wide16(n - 1))) < k
+    usize::from(cells::at(counts, first + usize::from(n - 1))) < k
 }
 
 // How many classes and how many entries row i of the trace leaves.
 fn classes_left(counts: &[u16], i: u16) -> u16
     ensures { result ≡ (level_at counts.now i).classes }
 {
-    cells::at16(counts, TRACE_CELL + cells::wide16(i) * LEVEL_CELLS)
+    cells::at(counts, TRACE_CELL + usize::from(i) * LEVEL_CELLS)
 }
 
 fn entries_left(counts: &[u16], i: u16) -> u16
     ensures { result ≡ (level_at counts.now i).cache }
 {
-    cells::at16(counts, TRACE_CELL + cells::wide16(i) * LEVEL_CELLS + 2)
+    cells::at(counts, TRACE_CELL + usize::from(i) * LEVEL_CELLS + 2)
 }
 
 // What row i of the trace leaves ends before its counts.
@@ -188,12 +188,12 @@ fn level_leaves(
 ) -> bool
     ensures { result ≡ leaves counts.now files supers entries held (level_at counts.now i) }
 {
-    let place = TRACE_CELL + cells::wide16(i) * LEVEL_CELLS;
-    let classes = cells::wide16(cells::at16(counts, place));
-    if cells::wide16(cells::at16(counts, place + 1)) < files {
+    let place = TRACE_CELL + usize::from(i) * LEVEL_CELLS;
+    let classes = usize::from(cells::at(counts, place));
+    if usize::from(cells::at(counts, place + 1)) < files {
         return false;
     }
-    if cells::wide16(cells::at16(counts, place + 2)) < supers {
+    if usize::from(cells::at(counts, place + 2)) < supers {
         return false;
     }
     if classes < entries {
@@ -202,9 +202,9 @@ fn level_leaves(
     if classes < held {
         return false;
     }
-    let ties = cells::at16(counts, place + 3);
-    let subtypes = cells::at16(counts, place + 4);
-    let numbers = cells::wide16(ties) + cells::wide16(subtypes);
+    let ties = cells::at(counts, place + 3);
+    let subtypes = cells::at(counts, place + 4);
+    let numbers = usize::from(ties) + usize::from(subtypes);
     if !last_below(counts, TIE_NUMBERS_CELL, ties, numbers) {
         return false;
     }
@@ -256,7 +256,7 @@ pub(crate) fn trace_fits(
 ) -> bool
     ensures { result ≡ trace_quick (cell_at ends.now) counts.now classes.now cache.now objects.now frames.now }
 {
-    let loads = cells::at16(counts, LOADS_CELL);
+    let loads = cells::at(counts, LOADS_CELL);
     if loads == 0 {
         return true;
     }

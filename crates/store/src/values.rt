@@ -29,7 +29,7 @@ fn object_exists(counts: &[u16], o: u32, made: u32) -> bool
     if made <= o {
         return false;
     }
-    0 < cells::at16(counts, OWNERS_CELL + cells::wide32(o))
+    0 < cells::at(counts, OWNERS_CELL + o as usize)
 }
 
 // A value by its kind and its bits. An int's bits don't count.
@@ -72,7 +72,7 @@ fn limit_of(kind: u32, made: u32) -> u32
 fn owned_too(counts: &[u16], o: u32, before: u32) -> u32
     ensures { eqb result 0 ≡ (eqb before 0 && ltb 0 (owner_at counts.now o)) }
 {
-    if cells::at16(counts, OWNERS_CELL + cells::wide32(o)) == 0 {
+    if cells::at(counts, OWNERS_CELL + o as usize) == 0 {
         return 1;
     }
     before
@@ -99,8 +99,8 @@ fn many_fit(counts: &[u16], objects: &[u32], o: u16, size: u8, made: u32) -> boo
     requires { (o * object_cells + object_cells ≤ length objects.now) × (size ≤ field_limit) }
     ensures { result ≡ all (value_in (exists counts.now made)) (rows (field_at objects.now o) size 0) }
 {
-    let first = cells::wide16(o) * OBJECT_CELLS + FIELDS_CELL;
-    let last = first + VALUE_CELLS * cells::wide8(size);
+    let first = usize::from(o) * OBJECT_CELLS + FIELDS_CELL;
+    let last = first + VALUE_CELLS * usize::from(size);
     let mut found: u32 = 0;
     let mut at = first;
     while at < last {
@@ -115,10 +115,10 @@ fn few_fit(counts: &[u16], objects: &[u32], o: u16, size: u8, made: u32) -> bool
     requires { (o * object_cells + object_cells ≤ length objects.now) × (size ≤ field_limit) }
     ensures { result ≡ all (value_in (exists counts.now made)) (rows (field_at objects.now o) size 0) }
 {
-    let first = cells::wide16(o) * OBJECT_CELLS;
+    let first = usize::from(o) * OBJECT_CELLS;
     let mut i: u8 = 0;
     while i < size {
-        let place = first + (FIELDS_CELL + VALUE_CELLS * cells::wide8(i));
+        let place = first + (FIELDS_CELL + VALUE_CELLS * usize::from(i));
         if !value_fits(counts, objects[place], objects[place + 1], made) {
             return false;
         }
@@ -150,7 +150,7 @@ fn object_fits(
     requires { SizesFew sizes.now × (classes ≤ class_limit) × (length counts.now ≡ counts_length) × (length objects.now ≡ objects_length) × (o < object_limit) }
     ensures { result ≡ object_in classes (exists counts.now made) (object_sized sizes.now counts.now objects.now o) }
 {
-    let row = cells::wide16(o);
+    let row = usize::from(o);
     let owner = counts[OWNERS_CELL + row];
     if owner == 0 {
         return true;
@@ -162,7 +162,7 @@ fn object_fits(
     if classes <= class {
         return false;
     }
-    let size = sizes[cells::wide32(class)];
+    let size = sizes[class as usize];
     fields_fit(counts, objects, o, size, made)
 }
 
@@ -170,9 +170,9 @@ pub(crate) fn objects_fit(sizes: &[u8], counts: &[u16], objects: &[u32]) -> bool
     requires { SizesFew sizes.now × (get_or counts.now count_classes 0 ≤ class_limit) × (length counts.now ≡ counts_length) × (length objects.now ≡ objects_length) × (get_or counts.now count_objects 0 ≤ object_limit) }
     ensures { result ≡ all (object_in (get_or counts.now count_classes 0) (exists counts.now (get_or counts.now count_objects 0))) (rows (object_sized sizes.now counts.now objects.now) (get_or counts.now count_objects 0) 0) }
 {
-    let classes = cells::from16(cells::at16(counts, COUNT_CLASSES));
-    let n = cells::at16(counts, COUNT_OBJECTS);
-    let made = cells::from16(n);
+    let classes = u32::from(cells::at(counts, COUNT_CLASSES));
+    let n = cells::at(counts, COUNT_OBJECTS);
+    let made = u32::from(n);
     let mut o: u16 = 0;
     while o < n {
         if !object_fits(sizes, counts, objects, o, classes, made) {
@@ -190,7 +190,7 @@ fn operands_fit(counts: &[u16], frames: &[u32], b: u32, depth: u32, made: u32) -
 {
     let mut i = depth;
     while 0 < i {
-        let place = cells::wide32(b) + (OPERANDS_CELL + VALUE_CELLS * cells::wide32(i - 1));
+        let place = b as usize + (OPERANDS_CELL + VALUE_CELLS * (i - 1) as usize);
         if !value_fits(counts, frames[place], frames[place + 1], made) {
             return false;
         }
@@ -205,7 +205,7 @@ fn locals_fit(counts: &[u16], frames: &[u32], b: u32, made: u32) -> bool
 {
     let mut i: u8 = 0;
     while i < LOCAL_COUNT {
-        let place = cells::wide32(b) + (LOCALS_CELL + VALUE_CELLS * cells::wide8(i));
+        let place = b as usize + (LOCALS_CELL + VALUE_CELLS * usize::from(i));
         if !local_fits(counts, frames[place], frames[place + 1], made) {
             return false;
         }
@@ -218,10 +218,10 @@ fn frame_fits(counts: &[u16], frames: &[u32], b: u32, classes: u32, made: u32) -
     requires { b + frame_cells ≤ length frames.now }
     ensures { result ≡ frame_fit classes (exists counts.now made) (frame_at frames.now b) }
 {
-    if classes <= cells::at32(frames, cells::wide32(b)) {
+    if classes <= cells::at(frames, b as usize) {
         return false;
     }
-    let depth = cells::at32(frames, cells::wide32(b) + DEPTH_CELL);
+    let depth = cells::at(frames, b as usize + DEPTH_CELL);
     if OPERAND_LIMIT < depth {
         return false;
     }
@@ -236,15 +236,15 @@ pub(crate) fn frames_fit(counts: &[u16], frames: &[u32], task: u8) -> bool
     requires { (length frames.now ≡ frames_length) × (task < task_limit) × (get_or counts.now (count_frames + task) 0 ≤ frame_limit) }
     ensures { result ≡ frames_fit counts.now frames.now task }
 {
-    let classes = cells::from16(cells::at16(counts, COUNT_CLASSES));
-    let made = cells::from16(cells::at16(counts, COUNT_OBJECTS));
-    let first = cells::from16(cells::from8(task)) * TASK_ROWS;
-    let mut i = cells::at16(counts, COUNT_FRAMES + cells::wide8(task));
+    let classes = u32::from(cells::at(counts, COUNT_CLASSES));
+    let made = u32::from(cells::at(counts, COUNT_OBJECTS));
+    let first = u32::from(task) * TASK_ROWS;
+    let mut i = cells::at(counts, COUNT_FRAMES + usize::from(task));
     while 0 < i {
         if !frame_fits(
             counts,
             frames,
-            (first + cells::from16(i - 1)) * ROW_SIZE,
+            (first + u32::from(i - 1)) * ROW_SIZE,
             classes,
             made,
         ) {

@@ -9,23 +9,23 @@ use definition::numbers::{COUNT_OBJECTS, OWNERS_CELL};
 fn is_dead(counts: &[u16], marks: &[u8], o: u16) -> bool
     ensures { result ≡ dead marks.now counts.now o }
 {
-    let row = cells::wide16(o);
-    if cells::at16(counts, OWNERS_CELL + row) == 0 {
+    let row = usize::from(o);
+    if cells::at(counts, OWNERS_CELL + row) == 0 {
         return false;
     }
-    cells::at8(marks, row) == 0
+    cells::at(marks, row) == 0
 }
 
 // How many are freed.
 pub(crate) fn free_unmarked(counts: &mut [u16], marks: &[u8]) -> u16
     ensures { freed counts.new result ≡ free_rows marks.now (get_or counts.old count_objects 0) 0 counts.old 0 }
 {
-    let rows = cells::at16(counts, COUNT_OBJECTS);
+    let rows = cells::at(counts, COUNT_OBJECTS);
     let mut number: u16 = 0;
     let mut o: u16 = 0;
     while o < rows {
         if is_dead(counts, marks, o) {
-            cells::put16(counts, OWNERS_CELL + cells::wide16(o), 0);
+            cells::put(counts, OWNERS_CELL + usize::from(o), 0);
             number += 1;
         }
         o += 1;

@@ -18,10 +18,10 @@ use definition::{Refusal, Reply};
 fn close(counts: &mut [u16])
     ensures { counts.new ≡ set counts.old loads_cell 0 }
 {
-    if cells::at16(counts, LOADS_CELL) == 0 {
+    if cells::at(counts, LOADS_CELL) == 0 {
         return;
     }
-    cells::put16(counts, LOADS_CELL, 0);
+    cells::put(counts, LOADS_CELL, 0);
 }
 
 // Objects that no frame reaches are freed; the answer is their number. No load before it can be taken back. Refusals: 1

@@ -20,15 +20,15 @@ const ROW_SIZE: u32 = FRAME_CELLS as u32;
 fn mark_object(marks: &mut [u8], list: &mut [u32], n: u16, o: u32) -> u16
     ensures { work marks.new list.new result ≡ mark (work marks.old list.old n) o }
 {
-    let place = cells::wide32(o);
-    if cells::at8(marks, place) != 0 {
+    let place = o as usize;
+    if cells::at(marks, place) != 0 {
         return n;
     }
     if OBJECT_LIMIT <= n {
         return n;
     }
-    cells::put8(marks, place, 1);
-    cells::put32(list, cells::wide16(n), o);
+    cells::put(marks, place, 1);
+    cells::put(list, usize::from(n), o);
     n + 1
 }
 
@@ -37,10 +37,10 @@ fn mark_value(marks: &mut [u8], list: &mut [u32], n: u16, table: &[u32], place: 
     requires { place < 65 * int_range }
     ensures { work marks.new list.new result ≡ mark_value (work marks.old list.old n) (value_at table.now place) }
 {
-    if cells::at32(table, place) != KIND_OBJECT {
+    if cells::at(table, place) != KIND_OBJECT {
         return n;
     }
-    mark_object(marks, list, n, cells::at32(table, place + 1))
+    mark_object(marks, list, n, cells::at(table, place + 1))
 }
 
 // The `count` values from cell `first` on.
@@ -58,7 +58,7 @@ fn mark_values(
     let mut size = n;
     let mut i: u8 = 0;
     while i < count {
-        let place = first + VALUE_CELLS * cells::wide8(i);
+        let place = first + VALUE_CELLS * usize::from(i);
         size = mark_value(marks, list, size, table, place);
         i += 1;
     }
@@ -79,7 +79,7 @@ fn mark_operands(
     let mut size = n;
     let mut i = depth;
     while 0 < i {
-        let place = cells::wide32(b) + (OPERANDS_CELL + VALUE_CELLS * cells::wide32(i - 1));
+        let place = b as usize + (OPERANDS_CELL + VALUE_CELLS * (i - 1) as usize);
         size = mark_value(marks, list, size, frames, place);
         i -= 1;
     }
@@ -90,14 +90,14 @@ fn mark_operands(
 fn mark_frame(marks: &mut [u8], list: &mut [u32], n: u16, frames: &[u32], b: u32) -> u16
     ensures { work marks.new list.new result ≡ mark_all (work marks.old list.old n) (named (frame_at frames.now b).operands ++ named (frame_at frames.now b).locals) }
 {
-    let depth = cells::at32(frames, cells::wide32(b) + DEPTH_CELL);
+    let depth = cells::at(frames, b as usize + DEPTH_CELL);
     let size = mark_operands(marks, list, n, frames, b, depth);
     mark_values(
         marks,
         list,
         size,
         frames,
-        cells::wide32(b) + LOCALS_CELL,
+        b as usize + LOCALS_CELL,
         LOCAL_COUNT,
     )
 }
@@ -113,16 +113,16 @@ fn mark_frames(
 ) -> u16
     ensures { work marks.new list.new result ≡ mark_all (work marks.old list.old n) (roots_of counts.now frames.now task) }
 {
-    let first = cells::from16(cells::from8(task)) * TASK_ROWS;
+    let first = u32::from(task) * TASK_ROWS;
     let mut size = n;
-    let mut i = cells::at16(counts, COUNT_FRAMES + cells::wide8(task));
+    let mut i = cells::at(counts, COUNT_FRAMES + usize::from(task));
     while 0 < i {
         size = mark_frame(
             marks,
             list,
             size,
             frames,
-            (first + cells::from16(i - 1)) * ROW_SIZE,
+            (first + u32::from(i - 1)) * ROW_SIZE,
         );
         i -= 1;
     }
@@ -140,15 +140,15 @@ fn mark_fields(
 ) -> u16
     ensures { work marks.new list.new result ≡ mark_all (work marks.old list.old n) (field_names sizes.now objects.now o) }
 {
-    let row = cells::wide32(o) * OBJECT_CELLS;
-    let class = cells::at32(objects, row);
+    let row = o as usize * OBJECT_CELLS;
+    let class = cells::at(objects, row);
     mark_values(
         marks,
         list,
         n,
         objects,
         row + FIELDS_CELL,
-        cells::at8(sizes, cells::wide32(class)),
+        cells::at(sizes, class as usize),
     )
 }
 
@@ -160,7 +160,7 @@ fn follow_fields(marks: &mut [u8], list: &mut [u32], n: u16, sizes: &[u8], objec
     let mut size = n;
     let mut i: u16 = 0;
     while i < size {
-        let o = cells::at32(list, cells::wide16(i));
+        let o = cells::at(list, usize::from(i));
         size = mark_fields(marks, list, size, sizes, objects, o);
         i += 1;
     }

@@ -11,7 +11,7 @@ use definition::numbers::COUNT_FRAMES;
 pub fn turn(counts: &[u16]) -> u8
     ensures { result ≡ turn_of counts.now }
 {
-    if cells::at16(counts, COUNT_FRAMES) == 0 {
+    if cells::at(counts, COUNT_FRAMES) == 0 {
         1
     } else {
         0
@@ -21,11 +21,11 @@ pub fn turn(counts: &[u16]) -> u8
 pub fn frame_count(counts: &[u16], task: u8) -> u16
     ensures { result ≡ get_or counts.now (count_frames + task) 0 }
 {
-    cells::at16(counts, COUNT_FRAMES + cells::wide8(task))
+    cells::at(counts, COUNT_FRAMES + usize::from(task))
 }
 
 pub fn write_frame_count(counts: &mut [u16], task: u8, n: u16)
     ensures { counts.new ≡ set counts.old (count_frames + task) n }
 {
-    cells::put16(counts, COUNT_FRAMES + cells::wide8(task), n);
+    cells::put(counts, COUNT_FRAMES + usize::from(task), n);
 }

@@ -17,18 +17,18 @@ use definition::{Refusal, Reply};
 fn take_level(counts: &mut [u16], i: u16)
     ensures { counts.new ≡ back_to (level_at counts.old i) i counts.old }
 {
-    let place = TRACE_CELL + cells::wide16(i) * LEVEL_CELLS;
-    let classes = cells::at16(counts, place);
-    let kept = cells::at16(counts, place + 1);
-    let cache = cells::at16(counts, place + 2);
-    let ties = cells::at16(counts, place + 3);
-    let subtypes = cells::at16(counts, place + 4);
-    cells::put16(counts, COUNT_CLASSES, classes);
-    cells::put16(counts, COUNT_KEPT, kept);
-    cells::put16(counts, COUNT_CACHE, cache);
-    cells::put16(counts, COUNT_TIES, ties);
-    cells::put16(counts, COUNT_SUBTYPES, subtypes);
-    cells::put16(counts, LOADS_CELL, i);
+    let place = TRACE_CELL + usize::from(i) * LEVEL_CELLS;
+    let classes = cells::at(counts, place);
+    let kept = cells::at(counts, place + 1);
+    let cache = cells::at(counts, place + 2);
+    let ties = cells::at(counts, place + 3);
+    let subtypes = cells::at(counts, place + 4);
+    cells::put(counts, COUNT_CLASSES, classes);
+    cells::put(counts, COUNT_KEPT, kept);
+    cells::put(counts, COUNT_CACHE, cache);
+    cells::put(counts, COUNT_TIES, ties);
+    cells::put(counts, COUNT_SUBTYPES, subtypes);
+    cells::put(counts, LOADS_CELL, i);
 }
 
 // The latest load that changed the store is undone, where nothing closed it. Refusals: 1 19
@@ -49,7 +49,7 @@ pub fn take_back(
     ) {
         return Reply::Denied(Refusal::Word(WORD_BROKEN));
     }
-    let loads = cells::at16(counts, LOADS_CELL);
+    let loads = cells::at(counts, LOADS_CELL);
     if loads == 0 {
         return Reply::Denied(Refusal::Word(WORD_LATE));
     }

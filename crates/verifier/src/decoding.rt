@@ -74,7 +74,7 @@ fn list_count(code: &[u8], i: usize) -> u8
     ensures { result ≡ get_or code.now (i + 4) 0 }
 {
     if i < code.len() {
-        cells::at8(code, i + 4)
+        cells::at(code, i + 4)
     } else {
         0
     }
@@ -95,7 +95,7 @@ pub fn inline_length(code: &[u8], i: usize, o: Opcode) -> usize
         Opcode::OpGetfield => 6,
         Opcode::OpPutfield => 6,
         Opcode::OpInvokevirtual => 8,
-        Opcode::OpInvokevirtualList => 7 + 2 * cells::wide8(list_count(code, i)),
+        Opcode::OpInvokevirtualList => 7 + 2 * usize::from(list_count(code, i)),
         Opcode::OpNew => 2,
         Opcode::OpReturn(_) => 0,
         Opcode::OpBranch(_) => 2,
@@ -107,7 +107,7 @@ pub fn inline_length(code: &[u8], i: usize, o: Opcode) -> usize
 pub fn extended(n: u16) -> u32
     ensures { result ≡ extend n }
 {
-    let wide = cells::from16(n);
+    let wide = u32::from(n);
     if wide < 32768 {
         wide
     } else {
@@ -150,7 +150,7 @@ fn call_at(code: &[u8], i: usize, place: usize, count: u8, n: usize) -> Reading
     let s = Signature {
         name: short_at(code, i + 2),
         arguments: arguments_at(code, place, count),
-        result: short_at(code, place + 2 * cells::wide8(count)),
+        result: short_at(code, place + 2 * usize::from(count)),
     };
     Reading::At(Instruction::Invokevirtual(short_at(code, i), s), n)
 }
@@ -171,8 +171,8 @@ fn instruction_of(code: &[u8], i: usize, o: Opcode, n: usize) -> Reading
     match o {
         Opcode::OpAconstNull => Reading::At(Instruction::AconstNull, n),
         Opcode::OpSipush => Reading::At(Instruction::Sipush(extended(short_at(code, i))), n),
-        Opcode::OpLoad(k) => Reading::At(Instruction::Load(k, cells::at8(code, i)), n),
-        Opcode::OpStore(k) => Reading::At(Instruction::Store(k, cells::at8(code, i)), n),
+        Opcode::OpLoad(k) => Reading::At(Instruction::Load(k, cells::at(code, i)), n),
+        Opcode::OpStore(k) => Reading::At(Instruction::Store(k, cells::at(code, i)), n),
         Opcode::OpPop => Reading::At(Instruction::Pop, n),
         Opcode::OpDup => Reading::At(Instruction::Dup, n),
         Opcode::OpArithmetic(a) => Reading::At(Instruction::Arithmetic(a), n),
@@ -194,7 +194,7 @@ pub fn decode(version: u8, code: &[u8], p: usize) -> Reading
     if code.len() <= p {
         return Reading::Unreadable;
     }
-    let o = opcode_of(version, cells::at8(code, p));
+    let o = opcode_of(version, cells::at(code, p));
     let n = inline_length(code, p + 1, o);
     if code.len() - p <= n {
         return Reading::Unreadable;

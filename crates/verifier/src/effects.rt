@@ -94,7 +94,7 @@ fn value(types: Types, d: usize, i: u8) -> u32
     if OPERANDS <= d {
         return 0;
     }
-    operand(types, d + 1 + cells::wide8(i))
+    operand(types, d + 1 + usize::from(i))
 }
 
 // Value i above the receiver at place d, where name i is demanded.
@@ -180,7 +180,7 @@ fn store(types: Types, kind: Kind, i: u8) -> Effect
     if !of_kind(kind, t) {
         return Effect::Rejected;
     }
-    let place = cells::wide8(i);
+    let place = usize::from(i);
     if LOCALS <= place {
         return Effect::Rejected;
     }
@@ -266,7 +266,7 @@ fn invokevirtual(types: Types, c: u16, s: Signature) -> Effect
         return Effect::Rejected;
     }
     let arguments = s.arguments;
-    let n = cells::wide8(argument_count(arguments));
+    let n = usize::from(argument_count(arguments));
     if types.depth <= n {
         return Effect::Rejected;
     }
@@ -284,7 +284,7 @@ fn new(types: Types, c: u16) -> Effect
     if c < NAME_OBJECT {
         return Effect::Rejected;
     }
-    push(types, cells::from16(c))
+    push(types, u32::from(c))
 }
 
 // An int goes, and it is compared with 0.

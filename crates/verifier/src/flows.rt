@@ -92,7 +92,7 @@ fn mapped_operands(maps: &[u8], place: u32, n: u8) -> [u32; OPERANDS]
     let mut i: u8 = 0;
     while i < n {
         let t = type_of_name(classfile::map_operand(maps, place, i));
-        let at = cells::wide8(i);
+        let at = usize::from(i);
         operands[at] = t;
         i += 1;
     }
@@ -103,7 +103,7 @@ fn mapped_operands(maps: &[u8], place: u32, n: u8) -> [u32; OPERANDS]
 pub(crate) fn is_fitting(maps: &[u8], place: u32) -> bool
     ensures { result ≡ fits (map_of maps.now place) }
 {
-    cells::wide8(classfile::map_depth(maps, place)) <= OPERANDS
+    usize::from(classfile::map_depth(maps, place)) <= OPERANDS
 }
 
 // The types that a map of at most 16 operands gives its point.
@@ -114,7 +114,7 @@ pub(crate) fn mapped_types(maps: &[u8], place: u32) -> Types
     let n = classfile::map_depth(maps, place);
     let operands = mapped_operands(maps, place, n);
     let locals = mapped_locals(maps, place);
-    let depth = cells::wide8(n);
+    let depth = usize::from(n);
     Types {
         operands,
         depth,
@@ -144,7 +144,7 @@ pub enum Part {
 fn meet_place(maps: &[u8], place: u32, values: &[u32], part: Part, i: u8) -> Meeting
     ensures { notes_in result ≡ meet_at maps.now place values.now part i }
 {
-    let t = cells::at32(values, cells::wide8(i));
+    let t = cells::at(values, usize::from(i));
     match part {
         Part::Locals => meet_local(t, classfile::map_local(maps, place, i)),
         Part::Operands => meet_name(t, classfile::map_operand(maps, place, i)),
@@ -213,7 +213,7 @@ pub(crate) fn meet_map(
     if !is_fitting(maps, place) {
         return unmet(count);
     }
-    if types.depth != cells::wide8(depth) {
+    if types.depth != usize::from(depth) {
         return unmet(count);
     }
     let values = types.locals;
@@ -243,5 +243,5 @@ pub(crate) fn meet_map(
         locals.count,
         locals.near,
     );
-    begun(operands, 8 + cells::from8(depth))
+    begun(operands, 8 + u16::from(depth))
 }

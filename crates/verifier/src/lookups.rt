@@ -27,7 +27,7 @@ fn search_map(maps: &[u8], q: usize) -> u32
     let mut place: u32 = 1;
     let mut i: u8 = 0;
     while i < n {
-        if cells::wide16(classfile::map_offset(maps, place)) == q {
+        if usize::from(classfile::map_offset(maps, place)) == q {
             return place;
         }
         place += classfile::map_size(maps, place);
@@ -56,7 +56,7 @@ pub(crate) fn index_maps(maps: &[u8]) -> [u32; POINTS]
     let mut place: u32 = 1;
     let mut i: u8 = 0;
     while i < n {
-        let q = cells::wide16(classfile::map_offset(maps, place));
+        let q = usize::from(classfile::map_offset(maps, place));
         put_place(&mut places, q, place);
         place += classfile::map_size(maps, place);
         i += 1;
@@ -151,7 +151,7 @@ fn is_target_bare(maps: &[u8], places: &[u32], i: Instruction) -> bool
 {
     let t = target_of(i);
     match t {
-        Target::To(q) => is_bare(maps, places, cells::wide16(q)),
+        Target::To(q) => is_bare(maps, places, usize::from(q)),
         Target::Nowhere => false,
     }
 }

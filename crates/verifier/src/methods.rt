@@ -31,7 +31,7 @@ pub(crate) fn pass(maps: &[u8], i: u8, place: u32, p: usize) -> Passed
     if classfile::map_count(maps) <= i {
         return Passed::To(i, place);
     }
-    let offset = cells::wide16(classfile::map_offset(maps, place));
+    let offset = usize::from(classfile::map_offset(maps, place));
     if offset == p {
         return Passed::To(i + 1, place + classfile::map_size(maps, place));
     }

@@ -36,7 +36,7 @@ pub struct Flowed {
 fn is_row(subtypes: &[u16], i: u16, loader: u8, low: u16, high: u16) -> bool
     ensures { result ≡ true → subtype_is loader (note low high) (subtype_at subtypes.now i) ≡ true }
 {
-    let start = cells::wide16(i) * ROW_CELLS;
+    let start = usize::from(i) * ROW_CELLS;
     let end = start + ROW_CELLS;
     if subtypes.len() < end {
         return false;

@@ -121,7 +121,7 @@ fn quiet_at(
     requires { Indexed maps.now places.now }
     ensures { QuietTo (turned version code.now (maps_of maps.now) res p (types_of types)) types result }
 {
-    if !may_be_quiet(cells::at8(code, p)) {
+    if !may_be_quiet(cells::at(code, p)) {
         return Quiet::Loud;
     }
     let Reading::At(i, size) = decode(version, code, p) else {

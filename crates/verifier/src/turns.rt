@@ -137,7 +137,7 @@ fn flow_to_target(
             near,
         },
         Target::To(q) => {
-            let place = find_map(maps, places, cells::wide16(q));
+            let place = find_map(maps, places, usize::from(q));
             if place == 0 {
                 return unmet(count);
             }

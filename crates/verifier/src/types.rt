@@ -41,7 +41,7 @@ pub enum Popped {
 pub(crate) fn type_of_name(n: u16) -> u32
     ensures { (type_of result ≡ type_of_name n) × (result < 65537) }
 {
-    if n == 1 { INT } else { cells::from16(n) }
+    if n == 1 { INT } else { u32::from(n) }
 }
 
 // The local of argument i at point 0; unset where there is no such argument.
@@ -59,7 +59,7 @@ fn argument_local(a: Arguments, i: u8) -> u32
 pub(crate) fn entry_types(own: u16, s: Signature) -> Types
     ensures { types_of result ≡ entry_of own s }
 {
-    let first = cells::from16(own);
+    let first = u32::from(own);
     let a = s.arguments;
     let second = argument_local(a, 0);
     let third = argument_local(a, 1);
@@ -93,7 +93,7 @@ pub(crate) fn pop(types: Types, d: usize) -> Popped
 pub(crate) fn local(types: Types, i: u8) -> u32
     ensures { local_of result ≡ known_local (locals_of types.locals) i }
 {
-    let place = cells::wide8(i);
+    let place = usize::from(i);
     if place < LOCALS {
         types.locals[place]
     } else {

@@ -1,41 +1,44 @@
--- Below the sign bit a number is itself, from there on it is negative; negative numbers are ordered as their bits are.
-use mathlib.Core.Path.{◌≡◌, refl, sym}
+-- The signed reading of 32 bits is the definition's, and so is the order of such readings.
+use mathlib.Core.Path.{◌≡◌, refl, subst, ap, ◌∙◌}
 use mathlib.Core.Bool.{Bool, true, false}
-use Prim.Native.Nat.{ℕ, ◌-◌, ◌<◌, ◌≤◌}
+use Prim.Native.Nat.{ℕ, suc, ◌-◌, ◌<◌, ◌≤◌}
 use native.Mathlib.Omega.{arith}
-use lib.IntN.{pos, negsuc}
+use lib.IntN.{ℤ, pos, negsuc}
 use lib.Dec.{ltb}
+use lib.Signed.{lt_z}
+use mir.Syntax.{w32}
+use mir.Val.{to_z, of_z, Fits}
 use borrow.Author.Tests.{lt-ltb, le-ltb, ltb-true, ltb-false}
+use Rattle.std.proofs.Math.Facts.{of_z-to_z, to_z_pos, to_z-neg}
 use Rattle.definition.specs.Answers.{signed, less}
 use Rattle.cells.proofs.is_less.Goals as goal
 
-mirrored : (a b : ℕ) → a < 4294967296 → b < 4294967296 → ltb a b ≡ ltb (4294967296 - 1 - b) (4294967296 - 1 - a)
-mirrored a b x y = go (ltb a b) refl
+same-order : (a b : ℤ) → lt_z a b ≡ less a b
+unfolding less
+same-order (pos a) (pos b) = refl
+same-order (pos a) (negsuc b) = refl
+same-order (negsuc a) (pos b) = refl
+same-order (negsuc a) (negsuc b) = refl
+
+same-reading : (n : ℕ) → n < 4294967296 → to_z w32 n ≡ signed n
+unfolding signed
+same-reading n h = go (ltb n 2147483648) refl
   where
-    go : (u : Bool) → ltb a b ≡ u → u ≡ ltb (4294967296 - 1 - b) (4294967296 - 1 - a)
-    go true e = let h : a < b = ltb-true a b e in sym (lt-ltb (4294967296 - 1 - b) (4294967296 - 1 - a) (omega arith))
-    go false e = sym (le-ltb (4294967296 - 1 - b) (4294967296 - 1 - a) (omega (arith, ltb-false a b e)))
+    go : (t : Bool) → ltb n 2147483648 ≡ t → to_z w32 n ≡ elim t [ true ↦ pos n | false ↦ negsuc (4294967296 - 1 - n) ]
+    go true e = to_z_pos w32 (ltb-true _ _ e)
+    go false e =
+        let high : 2147483648 ≤ n = omega (arith, ltb-false _ _ e) in
+        let below : 4294967295 - n < 2147483648 = omega arith in
+        subst (λ m. to_z w32 m ≡ negsuc (4294967295 - n)) (omega arith) (to_z-neg w32 (4294967295 - n) below)
 
-signed_low : (n : ℕ) → n < 2147483648 → signed n ≡ pos n
-unfolding signed
-signed_low n h = rw (lt-ltb n 2147483648 h, signed)
+read : (n : ℕ) (z : ℤ) → Fits w32 n → z ≡ to_z w32 n → to_z w32 (of_z w32 z) ≡ signed n
+read n z h e = ap (λ x. to_z w32 (of_z w32 x)) e ∙ ap (to_z w32) (of_z-to_z h) ∙ same-reading n h.fits
 
-signed_high : (n : ℕ) → 2147483648 ≤ n → signed n ≡ negsuc (4294967296 - 1 - n)
-unfolding signed
-signed_high n h = rw (le-ltb n 2147483648 h, signed)
-
-pub returns-then-b-lt-SIGN_BIT : goal.returns-then-b-lt-SIGN_BIT
-unfolding less
-returns-then-b-lt-SIGN_BIT c = rw (signed_low _ c.if-a-lt-SIGN_BIT.true, signed_low _ c.if-b-lt-SIGN_BIT.true)
-
-pub returns-then-a-lt-SIGN_BIT : goal.returns-then-a-lt-SIGN_BIT
-unfolding less
-returns-then-a-lt-SIGN_BIT c = rw (signed_low _ c.if-a-lt-SIGN_BIT.true, signed_high _ c.if-b-lt-SIGN_BIT.false)
-
-pub returns-then-b-lt-SIGN_BIT-2 : goal.returns-then-b-lt-SIGN_BIT-2
-unfolding less
-returns-then-b-lt-SIGN_BIT-2 c = rw (signed_high _ c.if-a-lt-SIGN_BIT.false, signed_low _ c.if-b-lt-SIGN_BIT-2.true)
+in-order : {x y a b : ℤ} → x ≡ a → y ≡ b → lt_z x y ≡ less a b
+in-order {a = a} {b = b} e f = rw (e, f) (same-order a b)
 
 pub returns : goal.returns
-unfolding less
-returns c = rw (signed_high _ c.if-a-lt-SIGN_BIT.false, signed_high _ c.if-b-lt-SIGN_BIT-2.false) (mirrored c.args.a c.args.b (omega arith) (omega arith))
+returns c =
+    let one = read _ _ c.ranges.a c.cast_signed.ensures in
+    let two = read _ _ c.ranges.b c.cast_signed-2.ensures in
+    in-order one two

@@ -4,4 +4,4 @@ use Rattle.cells.proofs.short_at.Goals as goal
 
 pub returns : goal.returns
 unfolding short_at
-returns c = rw (c.from8-2.ensures.0, c.next8.ensures, c.from8.ensures.0, c.at8.ensures)
+returns c = rw (c.from-2.ensures, c.next.ensures, c.from.ensures, c.at.ensures)

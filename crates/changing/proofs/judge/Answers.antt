@@ -10,13 +10,13 @@ pub returns-then-old_counts-ne-OWNERS_CELL : goal.returns-then-old_counts-ne-OWN
 returns-then-old_counts-ne-OWNERS_CELL c = other_length _ _ c.if-old_counts-ne-OWNERS_CELL.true
 
 pub returns-then-n-gt-TIE_LIMIT : goal.returns-then-n-gt-TIE_LIMIT
-returns-then-n-gt-TIE_LIMIT c = many-ties _ _ (omega (arith, c.at16-n.ensures, c.if-n-gt-TIE_LIMIT.true))
+returns-then-n-gt-TIE_LIMIT c = many-ties _ _ (omega (arith, c.at-n.ensures, c.if-n-gt-TIE_LIMIT.true))
 
 pub returns-then-is_broken : goal.returns-then-is_broken
 returns-then-is_broken c =
-    told-broken _ c.if-old_counts-ne-OWNERS_CELL.false _ c.if-n-gt-TIE_LIMIT.false c.at16-n.ensures _ c.list_cells.ensures _ c.write_groups.ensures (sym c.is_broken.ensures ∙ c.if-is_broken.true)
+    told-broken _ c.if-old_counts-ne-OWNERS_CELL.false _ c.if-n-gt-TIE_LIMIT.false c.at-n.ensures _ c.list_cells.ensures _ c.write_groups.ensures (sym c.is_broken.ensures ∙ c.if-is_broken.true)
 
 pub returns : goal.returns
 unfolding keeps_later
 returns c =
-    told-versions _ c.if-old_counts-ne-OWNERS_CELL.false _ c.if-n-gt-TIE_LIMIT.false c.at16-n.ensures _ c.list_cells.ensures _ c.write_groups.ensures (sym c.is_broken.ensures ∙ c.if-is_broken.false) _ c.keeps_later.ensures
+    told-versions _ c.if-old_counts-ne-OWNERS_CELL.false _ c.if-n-gt-TIE_LIMIT.false c.at-n.ensures _ c.list_cells.ensures _ c.write_groups.ensures (sym c.is_broken.ensures ∙ c.if-is_broken.false) _ c.keeps_later.ensures

@@ -8,6 +8,6 @@ use Rattle.desk.proofs.tariff_check_at.Goals as goal
 pub returns : goal.returns
 unfolding verdict_of
 returns c = (
-  rw (c.put32-3.ensures, c.put32-2.ensures, c.from16-2.ensures.0, c.from8-2.ensures.0, c.put32.ensures, c.from16.ensures.0, c.from8.ensures.0) (cells_told _ _ c.judge-v.ensures _),
+  rw (c.put-3.ensures, c.put-2.ensures, c.from-2.ensures, c.from-2.ensures, c.put.ensures, c.from.ensures, c.from.ensures) (cells_told _ _ c.judge-v.ensures _),
   ap (λ (w : told.Verdict). w.number) c.judge-v.ensures,
 )

@@ -10,4 +10,4 @@ returns-in-Wanted c = rw c.in-Wanted.is
 pub returns-in-Word : goal.returns-in-Word
 unfolding number
 returns-in-Word c =
-    rw (c.in-Word.is, c.from16.ensures.0, c.from8.ensures.0)
+    rw (c.in-Word.is, c.from.ensures, c.from.ensures)

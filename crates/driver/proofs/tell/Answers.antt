@@ -20,7 +20,7 @@ returns-in-Stepped c =
 pub returns-in-RanFor : goal.returns-in-RanFor
 unfolding number_of ends_in count_of
 returns-in-RanFor c =
-    rw c.in-RanFor.is (c.new-in-RanFor.ensures.0, c.new-in-RanFor.ensures.1 ∙ c.step_number-in-RanFor.ensures, c.new-in-RanFor.ensures.2 ∙ c.from16.ensures.0)
+    rw c.in-RanFor.is (c.new-in-RanFor.ensures.0, c.new-in-RanFor.ensures.1 ∙ c.step_number-in-RanFor.ensures, c.new-in-RanFor.ensures.2 ∙ c.from.ensures)
 
 pub returns-in-Denied : goal.returns-in-Denied
 unfolding number_of ends_in count_of

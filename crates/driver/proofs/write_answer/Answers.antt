@@ -6,4 +6,4 @@ use Rattle.driver.proofs.write_answer.Goals as goal
 pub returns : goal.returns
 unfolding put_reply
 returns c =
-    rw (c.put32-3.ensures, c.put32-2.ensures, c.put32.ensures, c.tell-it.ensures.0, c.tell-it.ensures.1, c.tell-it.ensures.2)
+    rw (c.put-3.ensures, c.put-2.ensures, c.put.ensures, c.tell-it.ensures.0, c.tell-it.ensures.1, c.tell-it.ensures.2)

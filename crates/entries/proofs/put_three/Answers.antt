@@ -3,4 +3,4 @@ use Rattle.std.proofs.Common.{rules}
 use Rattle.entries.proofs.put_three.Goals as goal
 
 pub returns : goal.returns
-returns c = rw (c.put_three.ensures, c.from16.ensures.0)
+returns c = rw (c.put_three.ensures, c.from.ensures)

@@ -4,7 +4,7 @@ use Rattle.entries.proofs.Laws.{Copying, copying-start, copying-more, copying-en
 use Rattle.entries.proofs.write_bytes.Goals as goal
 
 pub loop-i-init : goal.loop-i-init
-loop-i-init c = copying-start c.room-n.ensures.0 c.room-n.ensures.1 c.room-n.ensures.2 c.wide16-start.ensures.0
+loop-i-init c = copying-start c.room-n.ensures.0 c.room-n.ensures.1 c.room-n.ensures.2 c.from-start.ensures
 
 pub loop-i-preserved : goal.loop-i-preserved
 loop-i-preserved c = copying-more c.loop-i.invariant c.loop-i-test.true

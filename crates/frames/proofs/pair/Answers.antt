@@ -4,4 +4,4 @@ use Rattle.frames.proofs.pair.Goals as goal
 
 pub returns : goal.returns
 unfolding value_at
-returns c = rw (c.at32.ensures, c.at32-2.ensures)
+returns c = rw (c.at.ensures, c.at-2.ensures)

@@ -2,4 +2,4 @@
 use Rattle.frames.proofs.point.Goals as goal
 
 pub returns : goal.returns
-returns c = rw (← c.wide32.ensures.0) c.at32.ensures
+returns c = rw (← c.wide32.ensures.0) c.at.ensures

@@ -3,4 +3,4 @@ use Rattle.frames.proofs.write_head.Goals as goal
 
 pub returns : goal.returns
 returns c =
-    rw (c.write_moved.ensures, c.put32-2.ensures, c.put32.ensures, c.wide32.ensures.0, c.wide32-2.ensures.0)
+    rw (c.write_moved.ensures, c.put-2.ensures, c.put.ensures, c.wide32.ensures.0, c.wide32-2.ensures.0)

@@ -2,4 +2,4 @@
 use Rattle.frames.proofs.write_moved.Goals as goal
 
 pub returns : goal.returns
-returns c = rw (c.put32-2.ensures, c.put32.ensures, c.wide32.ensures.0, c.wide32-2.ensures.0)
+returns c = rw (c.put-2.ensures, c.put.ensures, c.wide32.ensures.0, c.wide32-2.ensures.0)

@@ -25,11 +25,11 @@ loop-i-smaller c = omega arith
 
 pub loop-i-preserved : goal.loop-i-preserved
 loop-i-preserved c =
-    (omega arith, rw (c.write_initial.ensures, c.at16.ensures, c.wide8.ensures.0, c.loop-i.invariant.1) (sym (write_rows-down (put_field c.args.o) (λ j. initial_of (get_or c.args.types.now j 0)) c.args.n c.loop-i.i _ (omega arith) (omega arith))), c.write_initial.auto.objects ∙ c.loop-i.invariant.2)
+    (omega arith, rw (c.write_initial.ensures, c.at.ensures, c.from.ensures, c.loop-i.invariant.1) (sym (write_rows-down (put_field c.args.o) (λ j. initial_of (get_or c.args.types.now j 0)) c.args.n c.loop-i.i _ (omega arith) (omega arith))), c.write_initial.auto.objects ∙ c.loop-i.invariant.2)
 
 pub shape_of-objects : goal.shape_of-objects
-shape_of-objects c = c.loop-i.invariant.2 ∙ c.put32.auto.t
+shape_of-objects c = c.loop-i.invariant.2 ∙ c.put.auto.t
 
 pub returns : goal.returns
 unfolding put_object
-returns c = let z : c.loop-i.i ≡ 0 = omega arith in let e : c.args.n - 0 ≡ c.args.n = omega arith in c.loop-i.invariant.1 ∙ rw (z, e, c.put32.ensures, c.wide32.ensures.0)
+returns c = let z : c.loop-i.i ≡ 0 = omega arith in let e : c.args.n - 0 ≡ c.args.n = omega arith in c.loop-i.invariant.1 ∙ rw (z, e, c.put.ensures, c.wide32.ensures.0)

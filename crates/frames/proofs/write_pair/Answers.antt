@@ -2,4 +2,4 @@
 use Rattle.frames.proofs.write_pair.Goals as goal
 
 pub returns : goal.returns
-returns c = rw (c.put32-2.ensures, c.put32.ensures)
+returns c = rw (c.put-2.ensures, c.put.ensures)

@@ -16,7 +16,7 @@ returns-in-Stepped c = rw c.in-Stepped.is
 
 pub returns-in-RanFor : goal.returns-in-RanFor
 unfolding count_of
-returns-in-RanFor c = rw (c.in-RanFor.is, c.from16.ensures.0)
+returns-in-RanFor c = rw (c.in-RanFor.is, c.from.ensures)
 
 pub returns-in-Denied : goal.returns-in-Denied
 unfolding count_of

@@ -17,7 +17,7 @@ pub loop-i-smaller : goal.loop-i-smaller
 loop-i-smaller c = omega (arith, c.loop-i-test.true)
 
 pub loop-i-preserved : goal.loop-i-preserved
-loop-i-preserved c = (writing_more _ _ _ _ _ _ _ _ c.loop-i.invariant.0 c.loop-i-test.true c.next_offer.ensures c.put32.ensures, c.put32.auto.t ∙ c.loop-i.invariant.1)
+loop-i-preserved c = (writing_more _ _ _ _ _ _ _ _ c.loop-i.invariant.0 c.loop-i-test.true c.next_offer.ensures c.put.ensures, c.put.auto.t ∙ c.loop-i.invariant.1)
 
 pub shape_of-answer : goal.shape_of-answer
 shape_of-answer c = c.loop-i.invariant.1

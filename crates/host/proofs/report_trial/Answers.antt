@@ -7,8 +7,8 @@ use Rattle.host.specs.Answers.{counted-cells}
 use Rattle.host.proofs.report_trial.Goals as goal
 
 pub shape_of-answer : goal.shape_of-answer
-shape_of-answer c = c.put32.auto.t ∙ c.report-number.auto.answer
+shape_of-answer c = c.put.auto.t ∙ c.report-number.auto.answer
 
 pub returns : goal.returns
 returns c =
-    (λ list. c.put32.ensures ∙ (ap (λ (z : List ℕ). set z 5 c.from16.result) c.report-number.ensures.answer ∙ rw c.from16.ensures.0 (counted-cells _ _ _ list _)), c.report-number.ensures.number)
+    (λ list. c.put.ensures ∙ (ap (λ (z : List ℕ). set z 5 c.from.result) c.report-number.ensures.answer ∙ rw c.from.ensures (counted-cells _ _ _ list _)), c.report-number.ensures.number)

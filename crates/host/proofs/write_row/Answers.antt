@@ -3,4 +3,4 @@ use Rattle.host.specs.Answers.{cells-written}
 use Rattle.host.proofs.write_row.Goals as goal
 
 pub returns : goal.returns
-returns c = rw (c.put32-6.ensures, c.put32-5.ensures, c.from16-3.ensures.0, c.put32-4.ensures, c.from16-2.ensures.0, c.put32-3.ensures, c.from16.ensures.0, c.put32-2.ensures, c.put32.ensures) (cells-written _ _ _ _ _ _ _)
+returns c = rw (c.put-6.ensures, c.put-5.ensures, c.from-3.ensures, c.put-4.ensures, c.from-2.ensures, c.put-3.ensures, c.from.ensures, c.put-2.ensures, c.put.ensures) (cells-written _ _ _ _ _ _ _)

@@ -21,4 +21,4 @@ slice_bounds-answer-end c =
 
 pub returns : goal.returns
 returns c =
-    rw c.at8.ensures at c.answer.ensures ∙ line-carried _ _ _ _ _ _ _ c.read.ensures c.in-Calls.is
+    rw c.at.ensures at c.answer.ensures ∙ line-carried _ _ _ _ _ _ _ c.read.ensures c.in-Calls.is

@@ -10,13 +10,13 @@ use borrow.Author.Rules.{rules}
 use Rattle.listing.proofs.find_number.Goals as goal
 
 pub loop-i-init : goal.loop-i-init
-loop-i-init c = (c.wide16-end.ensures.0, omega arith, λ g. sym (search-starts _ _ _ _ g))
+loop-i-init c = (c.from-end.ensures, omega arith, λ g. sym (search-starts _ _ _ _ g))
 
-pub returns-then-from16-number : goal.returns-then-from16-number
-returns-then-from16-number c = λ g. c.loop-i.invariant.2 g ∙ search-hit _ _ _ _ g _ (omega (arith, c.loop-i.invariant.0, c.loop-i-test.true)) (sym c.at16.ensures ∙ sym c.from16.ensures.0 ∙ c.if-from16-number.true)
+pub returns-then-from-number : goal.returns-then-from-number
+returns-then-from-number c = λ g. c.loop-i.invariant.2 g ∙ search-hit _ _ _ _ g _ (omega (arith, c.loop-i.invariant.0, c.loop-i-test.true)) (sym c.at.ensures ∙ sym c.from.ensures ∙ c.if-from-number.true)
 
 pub loop-i-preserved : goal.loop-i-preserved
-loop-i-preserved c = (c.loop-i.invariant.0, omega (arith, c.loop-i.invariant.0, c.loop-i-test.true), λ g. c.loop-i.invariant.2 g ∙ search-on _ _ _ _ g _ (omega (arith, c.loop-i.invariant.0, c.loop-i-test.true)) (λ z. c.if-from16-number.false (c.from16.ensures.0 ∙ c.at16.ensures ∙ z)))
+loop-i-preserved c = (c.loop-i.invariant.0, omega (arith, c.loop-i.invariant.0, c.loop-i-test.true), λ g. c.loop-i.invariant.2 g ∙ search-on _ _ _ _ g _ (omega (arith, c.loop-i.invariant.0, c.loop-i-test.true)) (λ z. c.if-from-number.false (c.from.ensures ∙ c.at.ensures ∙ z)))
 
 pub returns : goal.returns
 returns c = λ g. rw c.loop-i.invariant.0 (c.loop-i.invariant.2 g ∙ search-out _ _ _ _ g _ (omega (arith, c.loop-i.invariant.0, c.loop-i-test.false)))

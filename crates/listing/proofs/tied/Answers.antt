@@ -6,4 +6,4 @@ use Rattle.listing.proofs.tied.Goals as goal
 
 pub returns : goal.returns
 unfolding listed_of tie_at
-returns c = rw (c.at16.ensures, c.at16-2.ensures, c.at16-3.ensures)
+returns c = rw (c.at.ensures, c.at-2.ensures, c.at-3.ensures)

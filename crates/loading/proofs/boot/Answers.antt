@@ -8,4 +8,4 @@ returns-then-not-is_shaped c = boot-denied _ (sym c.is_shaped.ensures ∙ c.if-n
 
 pub returns : goal.returns
 returns c =
-    rw (c.put_three-2.ensures, c.put_three.ensures, c.put16.ensures, c.write_cells.ensures) (boot-done _ (sym c.is_shaped.ensures ∙ c.if-not-is_shaped.false))
+    rw (c.put_three-2.ensures, c.put_three.ensures, c.put.ensures, c.write_cells.ensures) (boot-done _ (sym c.is_shaped.ensures ∙ c.if-not-is_shaped.false))

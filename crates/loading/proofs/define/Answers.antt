@@ -20,7 +20,7 @@ write_class-requires c = (planned-new _ c.in-Add.is (c.decide_class-plan.ensures
 
 pub overflow_add-number : goal.overflow_add-number
 unfolding load_of held
-overflow_add-number c = omega (arith, c.at16-number.ensures, (planned-new _ c.in-Add.is (c.decide_class-plan.ensures c.args.loader c.args.file.now 512 _ _ _ _ c.admit-admitted.ensures)).newly.fits.sized.base.classes_few)
+overflow_add-number c = omega (arith, c.at-number.ensures, (planned-new _ c.in-Add.is (c.decide_class-plan.ensures c.args.loader c.args.file.now 512 _ _ _ _ c.admit-admitted.ensures)).newly.fits.sized.base.classes_few)
 
 pub overflow_cast-end : goal.overflow_cast-end
 unfolding load_of held file_of
@@ -29,7 +29,7 @@ overflow_cast-end c = omega (arith, (planned-new _ c.in-Add.is (c.decide_class-p
 pub overflow_add-end : goal.overflow_add-end
 unfolding load_of held file_of
 overflow_add-end c = let newly = (planned-new _ c.in-Add.is (c.decide_class-plan.ensures c.args.loader c.args.file.now 512 _ _ _ _ c.admit-admitted.ensures)).newly in
-    omega (arith, c.at16.ensures, newly.file, newly.fits.sized.base.kept_few)
+    omega (arith, c.at.ensures, newly.file, newly.fits.sized.base.kept_few)
 
 pub enter_class-requires : goal.enter_class-requires
 unfolding load_of held
@@ -73,7 +73,7 @@ returns-in-Add c = let counts = c.args.counts.now in
     let n = c.in-Add.n in
     let class = c.write_class.ensures in
     (λ i. done (c.reply_of.ensures i) (tables
-    ((c.enter_class.ensures.counted ∙ (λ j. grouped_with n counts (class.tied j) (counts_with n (c.at16-number.ensures j + 1) (c.at16.ensures j + length file) counts))) i)
+    ((c.enter_class.ensures.counted ∙ (λ j. grouped_with n counts (class.tied j) (counts_with n (c.at-number.ensures j + 1) (c.at.ensures j + length file) counts))) i)
     (class.row i) (class.bytes i) (c.enter_class.ensures.written i) (class.tied i) (class.noted i)
     c.args.objects.now c.args.frames.now))
     ∙ ((planned-new _ c.in-Add.is (c.decide_class-plan.ensures c.args.loader c.args.file.now 512 _ _ _ _ c.admit-admitted.ensures)).whole ∙ offered-whole (load_define c.args.loader c.args.file.now) (tables c.args.counts.now c.args.classes.now c.args.kept.now c.args.cache.now c.args.ties.now c.args.subtypes.now c.args.objects.now c.args.frames.now))

@@ -34,6 +34,6 @@ unfolding load_of held written
 returns-in-Add c = let counts = c.args.counts.now in
     let n = c.in-Add.n in
     (λ i. done (c.reply_of.ensures i) (tables
-    ((c.enter.ensures.counted ∙ (λ j. counts_with n (c.at16-number.ensures j) (c.at16-end.ensures j) counts)) i)
+    ((c.enter.ensures.counted ∙ (λ j. counts_with n (c.at-number.ensures j) (c.at-end.ensures j) counts)) i)
     c.args.classes.now c.args.kept.now (c.enter.ensures.written i) c.args.ties.now c.args.subtypes.now c.args.objects.now c.args.frames.now))
     ∙ ((planned-new _ c.in-Add.is (c.decide_entry-plan.ensures c.args.loader c.args.name c.args.class 512 _ _ _ _ c.admit-admitted.ensures)).whole ∙ offered-whole (load_record c.args.loader c.args.name c.args.class) (tables c.args.counts.now c.args.classes.now c.args.kept.now c.args.cache.now c.args.ties.now c.args.subtypes.now c.args.objects.now c.args.frames.now))

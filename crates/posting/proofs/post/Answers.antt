@@ -10,12 +10,12 @@ use borrow.Author.Rules.{rules}
 use Rattle.posting.proofs.post.Goals as goal
 
 pub overflow_add-result : goal.overflow_add-result
-overflow_add-result c = omega (arith, c.from16.ensures.1, c.from16-2.ensures.1)
+overflow_add-result c = omega (arith, c.from.ensures.1, c.from-2.ensures.1)
 
 pub returns : goal.returns
 returns c =
     let args = c.args in
     let new = c.new_ties-posting.ensures in record {
-      counted = omega (arith, c.from16.ensures.0, c.from16-2.ensures.0, c.tie_number.ensures.0, ap length new);
+      counted = omega (arith, c.from.ensures, c.from-2.ensures, c.tie_number.ensures.0, ap length new);
       written = c.write_ties.ensures ∙ ap (λ (us : List Tie). write_rows put_tie us args.count args.ties.now) new;
     }

@@ -11,4 +11,4 @@ returns-in-Nothing c = rw c.in-Nothing.is (refl, omega arith)
 
 pub returns-in-Ties : goal.returns-in-Ties
 returns-in-Ties c =
-    rw c.in-Ties.is (omega (arith, ties-counted c.in-Ties.field-0 c.in-Ties.field-1 c.in-Ties.names c.in-Ties.field-3, c.from8.ensures.0, c.argument_count.ensures), omega (arith, few-names c.in-Ties.names, c.from8.ensures.0, c.argument_count.ensures))
+    rw c.in-Ties.is (omega (arith, ties-counted c.in-Ties.field-0 c.in-Ties.field-1 c.in-Ties.names c.in-Ties.field-3, c.from.ensures, c.argument_count.ensures), omega (arith, few-names c.in-Ties.names, c.from.ensures, c.argument_count.ensures))

@@ -23,7 +23,7 @@ loop-i-preserved c =
     let xs = types_of c.args.names in (
       omega (arith, i.0),
       ap length c.write_tie-in-loop-i.ensures ∙ (put-long _ _ _ ∙ i.1),
-      rw (c.write_tie-in-loop-i.ensures, c.from16-in-loop-i.ensures.0, c.from16-in-loop-i-2.ensures.0, c.from8-in-loop-i.ensures.0, c.argument_at.ensures)
+      rw (c.write_tie-in-loop-i.ensures, c.from-in-loop-i.ensures, c.from-in-loop-i-2.ensures, c.from-in-loop-i.ensures, c.argument_at.ensures)
           (writes_more _ _ xs _ _ c.loop-i.i _ l i.0 i.2),
     )
 
@@ -34,9 +34,9 @@ pub returns : goal.returns
 unfolding to_post
 returns c =
     let a = c.args in
-    let k = c.from16.result + c.from16-2.result in
+    let k = c.from.result + c.from-2.result in
     let z : c.loop-i.i ≡ 0 = omega (arith, c.loop-i-test.false) in
-    let place : k ≡ a.n + length (types_of a.names) = omega (arith, c.from16.ensures.0, c.from16-2.ensures.0, c.from8.ensures.0, c.argument_count-i.ensures) in
+    let place : k ≡ a.n + length (types_of a.names) = omega (arith, c.from.ensures, c.from-2.ensures, c.from.ensures, c.argument_count-i.ensures) in
     (rw z at c.loop-i.invariant.2)
     ∙ (writes-all a.one a.two (types_of a.names) a.n _
     ∙ (ap (write_rows put_tie (map (tie a.one a.two) (types_of a.names)) a.n) c.write_tie.ensures

@@ -5,4 +5,4 @@ use Rattle.posting.proofs.write_tie.Goals as goal
 
 pub returns : goal.returns
 unfolding put_tie
-returns c = rw (c.put_three.ensures, c.from8.ensures.0, c.from8-2.ensures.0)
+returns c = rw (c.put_three.ensures, c.from.ensures, c.from-2.ensures)

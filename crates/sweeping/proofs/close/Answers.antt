@@ -10,5 +10,5 @@ use Rattle.sweeping.proofs.close.Goals as goal
 left : (c : List ℕ) (i : ℕ) → get_or c i 0 ≡ 0 → c ≡ set c i 0
 left c i e = sym (set-get_or c i 0) ∙ ap (set c i) e
 
-pub returns-then-at16-eq0 : goal.returns-then-at16-eq0
-returns-then-at16-eq0 c = left _ _ (sym c.at16.ensures ∙ c.if-at16-eq0.true)
+pub returns-then-at-eq0 : goal.returns-then-at-eq0
+returns-then-at-eq0 c = left _ _ (sym c.at.ensures ∙ c.if-at-eq0.true)

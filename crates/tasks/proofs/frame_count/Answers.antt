@@ -2,4 +2,4 @@
 use Rattle.tasks.proofs.frame_count.Goals as goal
 
 pub returns : goal.returns
-returns c = rw (c.at16.ensures, c.wide8.ensures.0)
+returns c = rw (c.at.ensures, c.from.ensures)

@@ -10,7 +10,7 @@ pub returns-then-is_broken : goal.returns-then-is_broken
 returns-then-is_broken c = back-broken _ (sym c.is_broken.ensures ∙ c.if-is_broken.true)
 
 pub returns-then-loads-eq0 : goal.returns-then-loads-eq0
-returns-then-loads-eq0 c = back-late _ (sym c.is_broken.ensures ∙ c.if-is_broken.false) (sym c.at16-loads.ensures ∙ c.if-loads-eq0.true)
+returns-then-loads-eq0 c = back-late _ (sym c.is_broken.ensures ∙ c.if-is_broken.false) (sym c.at-loads.ensures ∙ c.if-loads-eq0.true)
 
 pub overflow_sub-loads : goal.overflow_sub-loads
 overflow_sub-loads c = omega (arith, c.if-loads-eq0.false)
@@ -18,4 +18,4 @@ overflow_sub-loads c = omega (arith, c.if-loads-eq0.false)
 pub returns : goal.returns
 returns c =
     rw c.write_groups.ensures
-    (back_done _ (sym c.is_broken.ensures ∙ c.if-is_broken.false) _ (λ e. c.if-loads-eq0.false (c.at16-loads.ensures ∙ e)) (ap (λ (n : ℕ). n - 1) c.at16-loads.ensures) _ c.take_level.ensures)
+    (back_done _ (sym c.is_broken.ensures ∙ c.if-is_broken.false) _ (λ e. c.if-loads-eq0.false (c.at-loads.ensures ∙ e)) (ap (λ (n : ℕ). n - 1) c.at-loads.ensures) _ c.take_level.ensures)

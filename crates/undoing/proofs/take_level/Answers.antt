@@ -6,4 +6,4 @@ use Rattle.undoing.proofs.take_level.Goals as goal
 
 pub returns : goal.returns
 unfolding back_to level_at
-returns c = rw (c.put16-6.ensures, c.put16-5.ensures, c.put16-4.ensures, c.put16-3.ensures, c.put16-2.ensures, c.put16.ensures, c.at16-subtypes.ensures, c.at16-ties.ensures, c.at16-cache.ensures, c.at16-kept.ensures, c.at16-classes.ensures, c.wide16.ensures.0)
+returns c = rw (c.put-6.ensures, c.put-5.ensures, c.put-4.ensures, c.put-3.ensures, c.put-2.ensures, c.put.ensures, c.at-subtypes.ensures, c.at-ties.ensures, c.at-cache.ensures, c.at-kept.ensures, c.at-classes.ensures, c.from.ensures)

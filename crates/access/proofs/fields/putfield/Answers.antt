@@ -6,14 +6,14 @@ use Rattle.resolution.specs.Quick.{found_at, found-absent, loader-quick}
 use Rattle.access.proofs.fields.putfield.Goals as goal
 
 pub returns-in_default : goal.returns-in_default
-returns-in_default c = putfield-uncached _ _ _ _ _ _ _ _ _ _ (uncached _ _ _ _ _ _ _ _ c.find.ensures c.from8.ensures.0 c.in_default.is) _ _
+returns-in_default c = putfield-uncached _ _ _ _ _ _ _ _ _ _ (uncached _ _ _ _ _ _ _ _ c.find.ensures c.from.ensures c.in_default.is) _ _
 
 pub returns-in_default-nearest_field : goal.returns-in_default-nearest_field
-returns-in_default-nearest_field c = putfield-undeclared _ _ _ _ _ _ _ _ _ _ _ (cached _ _ _ _ _ _ _ _ c.find.ensures c.from8.ensures.0 _ c.in-At.is) _ _ (found-absent _ (sym c.nearest_field.ensures ∙ c.in_default-nearest_field.is))
+returns-in_default-nearest_field c = putfield-undeclared _ _ _ _ _ _ _ _ _ _ _ (cached _ _ _ _ _ _ _ _ c.find.ensures c.from.ensures _ c.in-At.is) _ _ (found-absent _ (sym c.nearest_field.ensures ∙ c.in_default-nearest_field.is))
 
 pub set_field-requires : goal.set_field-requires
 set_field-requires c = found_at _ _ (sym c.nearest_field.ensures ∙ c.in-At-nearest_field.is)
 
 pub returns : goal.returns
 returns c =
-    putfield-right _ _ _ _ _ _ _ _ _ _ _ (cached _ _ _ _ _ _ _ _ c.find.ensures c.from8.ensures.0 _ c.in-At.is) _ _ (c.loader_of-one.ensures ∙ sym (loader-quick c.args.counts.now c.args.classes.now c.args.kept.now c.args.cache.now _)) _ _ _ (found_at _ _ (sym c.nearest_field.ensures ∙ c.in-At-nearest_field.is)) c.set_field.ensures
+    putfield-right _ _ _ _ _ _ _ _ _ _ _ (cached _ _ _ _ _ _ _ _ c.find.ensures c.from.ensures _ c.in-At.is) _ _ (c.loader_of-one.ensures ∙ sym (loader-quick c.args.counts.now c.args.classes.now c.args.kept.now c.args.cache.now _)) _ _ _ (found_at _ _ (sym c.nearest_field.ensures ∙ c.in-At-nearest_field.is)) c.set_field.ensures

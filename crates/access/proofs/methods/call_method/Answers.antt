@@ -10,12 +10,12 @@ use Rattle.access.proofs.methods.call_method.Goals as goal
 
 pub returns-then-top-n : goal.returns-then-top-n
 returns-then-top-n c =
-    let counted = c.from16-n.ensures.0 ∙ c.from8.ensures.0 ∙ c.argument_count.ensures in
+    let counted = c.from-n.ensures ∙ c.from.ensures ∙ c.argument_count.ensures in
     rw c.refuse.ensures (call-few _ _ _ _ _ _ _ _ _ _ _ counted c.if-top-n.true)
 
 pub returns-then-not-are_kinds : goal.returns-then-not-are_kinds
 returns-then-not-are_kinds c =
-    let counted = c.from16-n.ensures.0 ∙ c.from8.ensures.0 ∙ c.argument_count.ensures in
+    let counted = c.from-n.ensures ∙ c.from.ensures ∙ c.argument_count.ensures in
     rw c.refuse-then-not-are_kinds.ensures (call-unkind _ _ _ _ _ _ _ _ _ _ _ counted c.if-top-n.false _ c.are_kinds.ensures c.if-not-are_kinds.true)
 
 pub select_from-requires : goal.select_from-requires
@@ -24,16 +24,16 @@ select_from-requires c = c.requires
 pub returns-in_default : goal.returns-in_default
 unfolding object_at
 returns-in_default c =
-    let counted = c.from16-n.ensures.0 ∙ c.from8.ensures.0 ∙ c.argument_count.ensures in
+    let counted = c.from-n.ensures ∙ c.from.ensures ∙ c.argument_count.ensures in
     rw c.refuse-in_default.ensures (call-unselected _ _ _ _ _ _ _ _ _ _ _ counted c.if-top-n.false _ c.are_kinds.ensures c.if-not-are_kinds.false _ _ c.operand-x.ensures _ c.received-r.ensures _ c.in-Right.is (rw c.object_class-c.ensures at (selection-absent _ (sym c.select_from.ensures ∙ c.in_default.is))))
 
 pub returns-in-Wrong : goal.returns-in-Wrong
 returns-in-Wrong c =
-    let counted = c.from16-n.ensures.0 ∙ c.from8.ensures.0 ∙ c.argument_count.ensures in
+    let counted = c.from-n.ensures ∙ c.from.ensures ∙ c.argument_count.ensures in
     rw c.refuse-in-Wrong.ensures (call-wrong _ _ _ _ _ _ _ _ _ _ _ counted c.if-top-n.false _ c.are_kinds.ensures c.if-not-are_kinds.false _ _ c.operand-x.ensures _ c.received-r.ensures _ c.in-Wrong.is)
 
 pub returns-in-Selected : goal.returns-in-Selected
 unfolding object_at
 returns-in-Selected c =
-    let counted = c.from16-n.ensures.0 ∙ c.from8.ensures.0 ∙ c.argument_count.ensures in
+    let counted = c.from-n.ensures ∙ c.from.ensures ∙ c.argument_count.ensures in
     call_at _ _ _ _ _ _ _ _ _ _ _ counted c.if-top-n.false _ c.are_kinds.ensures c.if-not-are_kinds.false _ _ c.operand-x.ensures _ c.received-r.ensures _ c.in-Right.is (rw counted (four-arguments c.args.s.arguments)) _ (rw c.object_class-c.ensures at (selection-at _ _ _ (sym c.select_from.ensures ∙ c.in-Selected.is)))

@@ -19,14 +19,14 @@ loop-i-init c = (omega arith, c.argument_count-n.ensures, kinds-all _ _ _ _)
 pub returns-then-not-is_kind : goal.returns-then-not-is_kind
 unfolding need
 returns-then-not-is_kind c =
-    sym (kinds-off _ _ _ _ _ (rw c.loop-i.invariant.1 at c.loop-i-test.true) _ _ (rw (c.from16.ensures.0, c.from8.ensures.0) at c.operand-v.ensures)
+    sym (kinds-off _ _ _ _ _ (rw c.loop-i.invariant.1 at c.loop-i-test.true) _ _ (rw (c.from.ensures, c.from.ensures) at c.operand-v.ensures)
     (rw c.argument_at.ensures at (sym c.is_kind.ensures ∙ c.if-not-is_kind.true))) ∙ c.loop-i.invariant.2
 
 pub loop-i-preserved : goal.loop-i-preserved
 loop-i-preserved c = (
   omega arith,
   c.loop-i.invariant.1,
-  sym (kinds-on _ _ _ _ _ (rw c.loop-i.invariant.1 at c.loop-i-test.true) _ _ (rw (c.from16.ensures.0, c.from8.ensures.0) at c.operand-v.ensures)
+  sym (kinds-on _ _ _ _ _ (rw c.loop-i.invariant.1 at c.loop-i-test.true) _ _ (rw (c.from.ensures, c.from.ensures) at c.operand-v.ensures)
       (rw c.argument_at.ensures at (sym c.is_kind.ensures ∙ c.if-not-is_kind.false))) ∙ c.loop-i.invariant.2,
 )
 

@@ -5,7 +5,7 @@ use Rattle.changing.proofs.Cells.{cell-count, cell-owner, cell-tie, cell-subtype
 use Rattle.changing.proofs.counts.cell_of.Goals as goal
 
 pub returns-then-i-lt-OWNERS_CELL : goal.returns-then-i-lt-OWNERS_CELL
-returns-then-i-lt-OWNERS_CELL c = c.at16.ensures ∙ cell-count _ _ _ c.if-i-lt-OWNERS_CELL.true
+returns-then-i-lt-OWNERS_CELL c = c.at.ensures ∙ cell-count _ _ _ c.if-i-lt-OWNERS_CELL.true
 
 pub returns-then-i-lt-TIE_NUMBERS_CELL : goal.returns-then-i-lt-TIE_NUMBERS_CELL
 returns-then-i-lt-TIE_NUMBERS_CELL c = cell-owner _ _ _ c.if-i-lt-OWNERS_CELL.false c.if-i-lt-TIE_NUMBERS_CELL.true

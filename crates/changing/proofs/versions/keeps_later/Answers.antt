@@ -11,7 +11,7 @@ use borrow.Author.Rules.{rules}
 use Rattle.changing.proofs.versions.keeps_later.Goals as goal
 
 pub loop-c-init : goal.loop-c-init
-loop-c-init c = (omega arith, rw (c.at16-bytes.ensures, c.at16-n.ensures) (ap (any (later_row _)) (rows_start _ _)))
+loop-c-init c = (omega arith, rw (c.at-bytes.ensures, c.at-n.ensures) (ap (any (later_row _)) (rows_start _ _)))
 
 pub returns-then-later_row : goal.returns-then-later_row
 returns-then-later_row c = sym (any-hit _ _ _ _ c.loop-c-test.true (sym c.later_row.ensures ∙ c.if-later_row.true)) ∙ c.loop-c.invariant.1

@@ -7,26 +7,26 @@ use borrow.Author.Rules.{rules}
 use Rattle.changing.proofs.Later.{no-file, past-kept, early-byte, late-byte}
 use Rattle.changing.proofs.versions.later_row.Goals as goal
 
-pub returns-then-at16-eq0 : goal.returns-then-at16-eq0
-returns-then-at16-eq0 c =
+pub returns-then-at-eq0 : goal.returns-then-at-eq0
+returns-then-at-eq0 c =
     let args = c.args in
-    rw (← c.wide16-row.ensures.0) (no-file args.classes.now args.kept.now args.n c.wide16-row.result (sym c.at16.ensures ∙ c.if-at16-eq0.true))
+    rw (← c.from-row.ensures) (no-file args.classes.now args.kept.now args.n c.from-row.result (sym c.at.ensures ∙ c.if-at-eq0.true))
 
 pub returns-then-n-start : goal.returns-then-n-start
 returns-then-n-start c =
     let args = c.args in
-    rw (← c.wide16-row.ensures.0) (past-kept args.classes.now args.kept.now args.n c.wide16-row.result (omega (arith, c.at16-start.ensures, c.if-n-start.true)))
+    rw (← c.from-row.ensures) (past-kept args.classes.now args.kept.now args.n c.from-row.result (omega (arith, c.at-start.ensures, c.if-n-start.true)))
 
 pub returns-then-version-lt-VERSION_TWO : goal.returns-then-version-lt-VERSION_TWO
 returns-then-version-lt-VERSION_TWO c =
     let args = c.args in
-    rw (← c.wide16-row.ensures.0)
-    (early-byte args.classes.now args.kept.now args.n c.wide16-row.result (λ e. c.if-at16-eq0.false (c.at16.ensures ∙ e)) (omega (arith, c.at16-start.ensures, c.if-n-start.false)) _
-    (c.at8-version.ensures ∙ ap (λ (i : ℕ). get_or args.kept.now i 0) (c.wide16.ensures.0 ∙ c.at16-start.ensures)) c.if-version-lt-VERSION_TWO.true)
+    rw (← c.from-row.ensures)
+    (early-byte args.classes.now args.kept.now args.n c.from-row.result (λ e. c.if-at-eq0.false (c.at.ensures ∙ e)) (omega (arith, c.at-start.ensures, c.if-n-start.false)) _
+    (c.at-version.ensures ∙ ap (λ (i : ℕ). get_or args.kept.now i 0) (c.from.ensures ∙ c.at-start.ensures)) c.if-version-lt-VERSION_TWO.true)
 
 pub returns : goal.returns
 returns c =
     let args = c.args in
-    rw (← c.wide16-row.ensures.0)
-    (late-byte args.classes.now args.kept.now args.n c.wide16-row.result (λ e. c.if-at16-eq0.false (c.at16.ensures ∙ e)) (omega (arith, c.at16-start.ensures, c.if-n-start.false)) _
-    (c.at8-version.ensures ∙ ap (λ (i : ℕ). get_or args.kept.now i 0) (c.wide16.ensures.0 ∙ c.at16-start.ensures)) c.if-version-lt-VERSION_TWO.false)
+    rw (← c.from-row.ensures)
+    (late-byte args.classes.now args.kept.now args.n c.from-row.result (λ e. c.if-at-eq0.false (c.at.ensures ∙ e)) (omega (arith, c.at-start.ensures, c.if-n-start.false)) _
+    (c.at-version.ensures ∙ ap (λ (i : ℕ). get_or args.kept.now i 0) (c.from.ensures ∙ c.at-start.ensures)) c.if-version-lt-VERSION_TWO.false)

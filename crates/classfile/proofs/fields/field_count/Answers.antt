@@ -4,4 +4,4 @@ use Rattle.classfile.proofs.fields.field_count.Goals as goal
 
 pub returns : goal.returns
 unfolding field_count
-returns c = c.at8.ensures
+returns c = c.at.ensures

@@ -4,4 +4,4 @@ use Rattle.classfile.proofs.fields.version.Goals as goal
 
 pub returns : goal.returns
 unfolding file_version
-returns c = c.at8.ensures
+returns c = c.at.ensures

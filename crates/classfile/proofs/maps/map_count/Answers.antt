@@ -4,4 +4,4 @@ use Rattle.classfile.proofs.maps.map_count.Goals as goal
 
 pub returns : goal.returns
 unfolding map_count
-returns c = c.at8.ensures
+returns c = c.at.ensures

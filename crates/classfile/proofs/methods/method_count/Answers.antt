@@ -4,4 +4,4 @@ use Rattle.classfile.proofs.methods.method_count.Goals as goal
 
 pub returns : goal.returns
 unfolding method_count
-returns c = rw (← c.field_count.ensures, ← c.field_place.ensures.0) c.at8.ensures
+returns c = rw (← c.field_count.ensures, ← c.field_place.ensures.0) c.at.ensures

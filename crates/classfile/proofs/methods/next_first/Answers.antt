@@ -12,4 +12,4 @@ returns c =
     let at : c.wide32.result + 6 ≡ c.args.place + 6 = omega (arith, c.wide32.ensures.0) in
     let l : c.short_at.result ≡ short_at bytes (c.args.place + 6) = c.short_at.ensures ∙ ap (short_at bytes) at in
     let n = next-first bytes c.args.place c.requires.0 in
-    (omega (arith, l, n, c.from16.ensures.0), omega (arith, c.from16.ensures.1))
+    (omega (arith, l, n, c.from.ensures), omega (arith, c.from.ensures.1))

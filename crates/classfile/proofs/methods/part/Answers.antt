@@ -9,8 +9,8 @@ pub returns-then-end-kept : goal.returns-then-end-kept
 returns-then-end-kept c =
     let given = c.args in
     let size : given.start + given.size - given.start ≡ given.size = omega arith in
-    let there = rw (c.wide16-from.ensures.0, c.wide16.ensures.0) at c.if-end-kept.true in
-    rw (c.wide16-from.ensures.0, c.wide16.ensures.0, size) (sym (part-there _ _ _ there))
+    let there = rw (c.from-from.ensures, c.from.ensures) at c.if-end-kept.true in
+    rw (c.from-from.ensures, c.from.ensures, size) (sym (part-there _ _ _ there))
 
 pub returns-else-end-kept : goal.returns-else-end-kept
-returns-else-end-kept c = sym (part-past _ _ _ (rw (c.wide16-from.ensures.0, c.wide16.ensures.0) at c.if-end-kept.false))
+returns-else-end-kept c = sym (part-past _ _ _ (rw (c.from-from.ensures, c.from.ensures) at c.if-end-kept.false))

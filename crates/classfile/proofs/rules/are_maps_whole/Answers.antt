@@ -38,7 +38,7 @@ loop-i-preserved c =
       omega arith,
       map_next _ _ _ _ at.invariant.1 c.map_size-place.ensures.0,
       omega arith,
-      least-next _ _ _ _ at.invariant.1 (c.from16-low.ensures.0 ∙ c.map_offset.ensures),
+      least-next _ _ _ _ at.invariant.1 (c.from-low.ensures ∙ c.map_offset.ensures),
       sym (every_more _ _ _ c.loop-i-test.true (rw (← at.invariant.1, ← at.invariant.3) whole)) ∙ at.invariant.4,
     )
 

@@ -22,5 +22,5 @@ unfolding coded_method code_end
 returns c =
     let some = le-leb _ _ (rw c.code_length-length.ensures at c.if-length-lt1.false) in
     let few = le-leb _ _ (rw c.code_length-length.ensures at c.if-length-gt-CODE_LIMIT.false) in
-    rw (c.code_place.ensures.0, c.wide16.ensures.0, c.code_length-length.ensures)
+    rw (c.code_place.ensures.0, c.from.ensures, c.code_length-length.ensures)
     (sym (every_first _ _ some ∙ every_first _ _ few ∙ every-last _))

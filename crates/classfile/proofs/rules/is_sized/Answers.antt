@@ -38,7 +38,7 @@ returns-then-version-gt-VERSION_THREE c =
 pub returns : goal.returns
 unfolding sized
 returns c =
-    rw (c.wide16.ensures.0, c.short_at.ensures)
+    rw (c.from.ensures, c.short_at.ensures)
     (sym
     (every_first _ _ ((let it : leb (length c.args.bytes.now) 4096 ≡ true = le-leb _ _ c.if-size-gt-FILE_LIMIT.false in it))
     ∙ every_first _ _ ((let it : leb (method_place c.args.bytes.now 0) (length c.args.bytes.now) ≡ true = le-leb _ _ (rw (c.wide32.ensures.0, c.first_place.ensures.place) at c.if-size-wide32.false) in it))

@@ -10,24 +10,24 @@ use Rattle.classfile.specs.Reading.{map_depth, map_end}
 use Rattle.classfile.specs.Rules.{whole_map}
 use Rattle.classfile.proofs.rules.is_whole_map.Goals as goal
 
-pub returns-then-from16-low : goal.returns-then-from16-low
+pub returns-then-from-low : goal.returns-then-from-low
 unfolding whole_map
-returns-then-from16-low c = sym (every-fails _ _ (lt-leb _ _ (rw (c.from16.ensures.0, c.map_offset.ensures) at c.if-from16-low.true)))
+returns-then-from-low c = sym (every-fails _ _ (lt-leb _ _ (rw (c.from.ensures, c.map_offset.ensures) at c.if-from-low.true)))
 
-pub returns-then-from16-gt-OPERAND_LIMIT : goal.returns-then-from16-gt-OPERAND_LIMIT
+pub returns-then-from-gt-OPERAND_LIMIT : goal.returns-then-from-gt-OPERAND_LIMIT
 unfolding whole_map
-returns-then-from16-gt-OPERAND_LIMIT c =
-    let many = lt-leb _ _ (rw (c.from16-2.ensures.0, c.from8.ensures.0, c.map_depth.ensures) at c.if-from16-gt-OPERAND_LIMIT.true) in
-    sym (every_first _ _ ((let it : leb c.args.low (short_at c.args.maps.now c.args.place) ≡ true = le-leb _ _ (rw (c.from16.ensures.0, c.map_offset.ensures) at c.if-from16-low.false) in it)) ∙ every-fails _ _ many)
+returns-then-from-gt-OPERAND_LIMIT c =
+    let many = lt-leb _ _ (rw (c.from-2.ensures, c.from.ensures, c.map_depth.ensures) at c.if-from-gt-OPERAND_LIMIT.true) in
+    sym (every_first _ _ ((let it : leb c.args.low (short_at c.args.maps.now c.args.place) ≡ true = le-leb _ _ (rw (c.from.ensures, c.map_offset.ensures) at c.if-from-low.false) in it)) ∙ every-fails _ _ many)
 
 pub returns-then-maps-wide32 : goal.returns-then-maps-wide32
 unfolding whole_map map_end
 returns-then-maps-wide32 c =
     let past = lt-leb _ _ (rw (c.wide32.ensures.0, c.wide32-2.ensures.0, c.map_size.ensures.0) at c.if-maps-wide32.true) in
-    sym (every_first _ _ ((let it : leb c.args.low (short_at c.args.maps.now c.args.place) ≡ true = le-leb _ _ (rw (c.from16.ensures.0, c.map_offset.ensures) at c.if-from16-low.false) in it)) ∙ every_first _ _ ((let it : leb (map_depth c.args.maps.now c.args.place) 16 ≡ true = le-leb _ _ (rw (c.from16-2.ensures.0, c.from8.ensures.0, c.map_depth.ensures) at c.if-from16-gt-OPERAND_LIMIT.false) in it)) ∙ every-fails _ _ past)
+    sym (every_first _ _ ((let it : leb c.args.low (short_at c.args.maps.now c.args.place) ≡ true = le-leb _ _ (rw (c.from.ensures, c.map_offset.ensures) at c.if-from-low.false) in it)) ∙ every_first _ _ ((let it : leb (map_depth c.args.maps.now c.args.place) 16 ≡ true = le-leb _ _ (rw (c.from-2.ensures, c.from.ensures, c.map_depth.ensures) at c.if-from-gt-OPERAND_LIMIT.false) in it)) ∙ every-fails _ _ past)
 
 pub returns : goal.returns
 unfolding whole_map map_end
 returns c =
     rw c.are_operands_set.ensures
-    (sym (every_first _ _ ((let it : leb c.args.low (short_at c.args.maps.now c.args.place) ≡ true = le-leb _ _ (rw (c.from16.ensures.0, c.map_offset.ensures) at c.if-from16-low.false) in it)) ∙ every_first _ _ ((let it : leb (map_depth c.args.maps.now c.args.place) 16 ≡ true = le-leb _ _ (rw (c.from16-2.ensures.0, c.from8.ensures.0, c.map_depth.ensures) at c.if-from16-gt-OPERAND_LIMIT.false) in it)) ∙ every_first _ _ ((let it : leb (map_end c.args.maps.now c.args.place) (length c.args.maps.now) ≡ true = le-leb _ _ (rw (c.wide32.ensures.0, c.wide32-2.ensures.0, c.map_size.ensures.0) at c.if-maps-wide32.false) in it)) ∙ every-last _))
+    (sym (every_first _ _ ((let it : leb c.args.low (short_at c.args.maps.now c.args.place) ≡ true = le-leb _ _ (rw (c.from.ensures, c.map_offset.ensures) at c.if-from-low.false) in it)) ∙ every_first _ _ ((let it : leb (map_depth c.args.maps.now c.args.place) 16 ≡ true = le-leb _ _ (rw (c.from-2.ensures, c.from.ensures, c.map_depth.ensures) at c.if-from-gt-OPERAND_LIMIT.false) in it)) ∙ every_first _ _ ((let it : leb (map_end c.args.maps.now c.args.place) (length c.args.maps.now) ≡ true = le-leb _ _ (rw (c.wide32.ensures.0, c.wide32-2.ensures.0, c.map_size.ensures.0) at c.if-maps-wide32.false) in it)) ∙ every-last _))

@@ -48,7 +48,7 @@ returns c =
     let groups = c.group_places in
     rw c.tell.ensures
     (names-counted _ args.cache.now args.ties.now args.beside.now args.subtypes.now cached.result tied.result noted.result _ _ _ _ _ _ cached.ensures.0 tied.ensures.0
-    noted.ensures.0 c.wide16.ensures.0
+    noted.ensures.0 c.from.ensures
     (names (super_in args.supers.now) args.cache.now cached.result _ _ _ _ noted.result
     (agree_same args.cache.now cached.result args.ties.now tied.result args.subtypes.now noted.result args.beside.now
     numbers.new.numbers nodes.new.nodes classes.new.classes groups.new.groups (omega (arith, cached.ensures.1, tied.ensures.1, noted.ensures.1)) numbers.ensures nodes.ensures

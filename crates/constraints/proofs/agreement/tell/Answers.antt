@@ -29,4 +29,4 @@ returns-in-NoPair c = rw c.in-NoPair.is refl
 
 pub returns-in-Pair : goal.returns-in-Pair
 unfolding told_of entry_at
-returns-in-Pair c = rw (c.in-Pair.is, c.at16.ensures, c.at16-in-Pair.ensures, c.at16-in-Pair-2.ensures, c.at16-in-Pair-3.ensures) refl
+returns-in-Pair c = rw (c.in-Pair.is, c.at.ensures, c.at-in-Pair.ensures, c.at-in-Pair-2.ensures, c.at-in-Pair-3.ensures) refl

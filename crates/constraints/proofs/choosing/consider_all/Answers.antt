@@ -3,7 +3,7 @@ use mathlib.Core.Path.{sym, ◌∙◌}
 use native.Mathlib.Omega.{arith}
 use Rattle.constraints.proofs.Choices.{left-start, left_here, left-past, left-none}
 use Rattle.constraints.proofs.choosing.consider_all.Goals as goal
-use Rattle.constraints.proofs.choosing.consider_all.Goals.{then-at16-c, else-at16-c}
+use Rattle.constraints.proofs.choosing.consider_all.Goals.{then-at-c, else-at-c}
 
 pub loop-q-init : goal.loop-q-init
 loop-q-init c = (omega arith, c.requires.0, left-start _ _ _ _ _ _ _ _)
@@ -15,11 +15,11 @@ pub loop-q-preserved : goal.loop-q-preserved
 loop-q-preserved c =
     let loop = c.loop-q in
     let test = c.loop-q-test in
-    elim c.if-at16-c.branch [
-      | then-at16-c w ↦ rw (w.best-is, w.kept-is)
-          (omega arith, w.consider-kept.ensures.0, rw w.consider-kept.ensures.1 (sym (left_here _ _ _ _ _ _ _ _ _ test.true (sym c.at16.ensures ∙ w.if-at16-c.true)) ∙ loop.invariant.2))
-      | else-at16-c w ↦ rw (w.best-is, w.kept-is)
-          (omega arith, loop.invariant.1, sym (left-past _ _ _ _ _ _ _ _ _ test.true (λ e. w.if-at16-c.false (c.at16.ensures ∙ e))) ∙ loop.invariant.2)
+    elim c.if-at-c.branch [
+      | then-at-c w ↦ rw (w.best-is, w.kept-is)
+          (omega arith, w.consider-kept.ensures.0, rw w.consider-kept.ensures.1 (sym (left_here _ _ _ _ _ _ _ _ _ test.true (sym c.at.ensures ∙ w.if-at-c.true)) ∙ loop.invariant.2))
+      | else-at-c w ↦ rw (w.best-is, w.kept-is)
+          (omega arith, loop.invariant.1, sym (left-past _ _ _ _ _ _ _ _ _ test.true (λ e. w.if-at-c.false (c.at.ensures ∙ e))) ∙ loop.invariant.2)
     ]
 
 pub shape_of-best : goal.shape_of-best

@@ -29,10 +29,10 @@ search_class-kept-requires c =
 pub loop-p-preserved : goal.loop-p-preserved
 loop-p-preserved c =
     let args = c.args in
-    let wide16 = c.wide16 in
+    let from = c.from in
     let was-met = c.was_met in
     let loop = c.loop-p in
-    let class : wide16.result ≡ get_or args.classes.now loop.p 0 = wide16.ensures.0 ∙ c.at16-class.ensures in
+    let class : from.result ≡ get_or args.classes.now loop.p 0 = from.ensures ∙ c.at-class.ensures in
     let met : was-met.new.met ≡ set loop.met (get_or args.classes.now loop.p 0) 1 = rw class at was-met.ensures.1 in
     rw met
     (elim c.if-not-was_met.branch [
@@ -42,7 +42,7 @@ loop-p-preserved c =
         w.mark_above.ensures.stamped,
         met-more args.classes.now loop.p loop.met loop.invariant.3,
         length-set loop.met _ _ ∙ loop.invariant.4,
-        swept-one _ _ _ _ _ _ _ _ _ _ (super-falls args.supers.now) w.mark_above.ensures loop.invariant.5 (rw c.at16-class.ensures at w.search_class-kept.ensures.1),
+        swept-one _ _ _ _ _ _ _ _ _ _ (super-falls args.supers.now) w.mark_above.ensures loop.invariant.5 (rw c.at-class.ensures at w.search_class-kept.ensures.1),
       )
       | else-not-was_met w ↦ rw (w.best-is, w.aboves-is, w.kept-is) (
         omega arith,
@@ -50,7 +50,7 @@ loop-p-preserved c =
         stamped-more (omega arith) loop.invariant.2,
         met-more args.classes.now loop.p loop.met loop.invariant.3,
         length-set loop.met _ _ ∙ loop.invariant.4,
-        swept-met _ _ _ _ _ _ _ _ loop.met loop.invariant.3 (rw class at (eqb-true (get_or loop.met wide16.result 0) 1 (sym was-met.ensures.0 ∙ w.if-not-was_met.false))) loop.invariant.5,
+        swept-met _ _ _ _ _ _ _ _ loop.met loop.invariant.3 (rw class at (eqb-true (get_or loop.met from.result 0) 1 (sym was-met.ensures.0 ∙ w.if-not-was_met.false))) loop.invariant.5,
       )
     ])
 

@@ -5,4 +5,4 @@ use lib.Dec.{eqb}
 use Rattle.constraints.proofs.choosing.was_met.Goals as goal
 
 pub returns : goal.returns
-returns c = (ap (λ (x : ℕ). eqb x 1) c.at16-before.ensures, c.put16.ensures)
+returns c = (ap (λ (x : ℕ). eqb x 1) c.at-before.ensures, c.put.ensures)

@@ -11,8 +11,8 @@ loop-i-init c = (omega arith, c.requires.1, written_none _ _ _ _ _ c.args.best.n
 pub loop-i-preserved : goal.loop-i-preserved
 loop-i-preserved c =
     let loop = c.loop-i in
-    rw c.put16.ensures
-    (omega arith, length-set loop.best _ _ ∙ loop.invariant.1, written-more _ _ _ _ _ loop.best _ _ _ _ _ c.loop-i-test.true (omega (arith, loop.invariant.1, c.requires.0, c.loop-i-test.true)) c.place-way.ensures.0 c.at16.ensures c.place-at.ensures.0 loop.invariant.2)
+    rw c.put.ensures
+    (omega arith, length-set loop.best _ _ ∙ loop.invariant.1, written-more _ _ _ _ _ loop.best _ _ _ _ _ c.loop-i-test.true (omega (arith, loop.invariant.1, c.requires.0, c.loop-i-test.true)) c.place-way.ensures.0 c.at.ensures c.place-at.ensures.0 loop.invariant.2)
 
 pub shape_of-best : goal.shape_of-best
 shape_of-best c = c.loop-i.invariant.1 ∙ sym c.requires.1

@@ -16,35 +16,35 @@ pub bounds-nodes-ones-in-loop-i : goal.bounds-nodes-ones-in-loop-i
 bounds-nodes-ones-in-loop-i c = omega (arith, c.requires.0, c.requires.1, c.loop-i.invariant.0, c.loop-i-test.true)
 
 pub bounds-labels-one : goal.bounds-labels-one
-bounds-labels-one c = (let it : c.wide16-one.result < length c.loop-i.labels = let args = c.args in
+bounds-labels-one c = (let it : c.from-one.result < length c.loop-i.labels = let args = c.args in
     let pre = c.requires in
     let loop = c.loop-i in
-    omega (arith, pre.0, pre.2, loop.invariant.0, loop.invariant.2, c.loop-i-test.true, c.wide16-one.ensures.0, pre.3 (args.ones + (loop.i - 1)) (omega (arith, loop.invariant.0, c.loop-i-test.true))) in it)
+    omega (arith, pre.0, pre.2, loop.invariant.0, loop.invariant.2, c.loop-i-test.true, c.from-one.ensures, pre.3 (args.ones + (loop.i - 1)) (omega (arith, loop.invariant.0, c.loop-i-test.true))) in it)
 
 pub bounds-labels-two : goal.bounds-labels-two
 bounds-labels-two c = omega (
   arith,
-  (let it : c.wide16-two.result < length c.loop-i.labels = let args = c.args in
+  (let it : c.from-two.result < length c.loop-i.labels = let args = c.args in
       let pre = c.requires in
       let loop = c.loop-i in
-      omega (arith, pre.0, pre.2, loop.invariant.0, loop.invariant.2, c.loop-i-test.true, c.wide16-two.ensures.0, pre.3 (args.ones + args.tied + (loop.i - 1)) (omega (arith, loop.invariant.0, c.loop-i-test.true))) in it),
-  length-set c.loop-i.labels c.wide16-one.result (1280 + c.from16-label.result),
+      omega (arith, pre.0, pre.2, loop.invariant.0, loop.invariant.2, c.loop-i-test.true, c.from-two.ensures, pre.3 (args.ones + args.tied + (loop.i - 1)) (omega (arith, loop.invariant.0, c.loop-i-test.true))) in it),
+  length-set c.loop-i.labels c.from-one.result (1280 + c.from-label.result),
 )
 
 pub loop-i-preserved : goal.loop-i-preserved
 loop-i-preserved c =
     let loop = c.loop-i in
     let args = c.args in
-    let is : 1280 + c.from16-label.result ≡ 1280 + get_or args.beside.now (loop.i - 1) 0 = omega (arith, c.from16-label.ensures.0, c.at16.ensures) in (
+    let is : 1280 + c.from-label.result ≡ 1280 + get_or args.beside.now (loop.i - 1) 0 = omega (arith, c.from-label.ensures, c.at.ensures) in (
       omega (arith, loop.invariant.0),
-      label-before args.nodes.now loop.labels args.beside.now args.ones args.tied loop.i args.ones c.wide16-one.result c.wide16-two.result (1280 + c.from16-label.result) c.loop-i-test.true loop.invariant.0 is c.wide16-one.ensures.0 c.wide16-two.ensures.0 ((let it : c.wide16-one.result < length c.loop-i.labels = let args = c.args in
+      label-before args.nodes.now loop.labels args.beside.now args.ones args.tied loop.i args.ones c.from-one.result c.from-two.result (1280 + c.from-label.result) c.loop-i-test.true loop.invariant.0 is c.from-one.ensures c.from-two.ensures ((let it : c.from-one.result < length c.loop-i.labels = let args = c.args in
           let pre = c.requires in
           let loop = c.loop-i in
-          omega (arith, pre.0, pre.2, loop.invariant.0, loop.invariant.2, c.loop-i-test.true, c.wide16-one.ensures.0, pre.3 (args.ones + (loop.i - 1)) (omega (arith, loop.invariant.0, c.loop-i-test.true))) in it)) ((let it : c.wide16-two.result < length c.loop-i.labels = let args = c.args in
+          omega (arith, pre.0, pre.2, loop.invariant.0, loop.invariant.2, c.loop-i-test.true, c.from-one.ensures, pre.3 (args.ones + (loop.i - 1)) (omega (arith, loop.invariant.0, c.loop-i-test.true))) in it)) ((let it : c.from-two.result < length c.loop-i.labels = let args = c.args in
           let pre = c.requires in
           let loop = c.loop-i in
-          omega (arith, pre.0, pre.2, loop.invariant.0, loop.invariant.2, c.loop-i-test.true, c.wide16-two.ensures.0, pre.3 (args.ones + args.tied + (loop.i - 1)) (omega (arith, loop.invariant.0, c.loop-i-test.true))) in it)) loop.invariant.1,
-      length-set (set loop.labels c.wide16-one.result (1280 + c.from16-label.result)) c.wide16-two.result (1280 + c.from16-label.result) ∙ (length-set loop.labels c.wide16-one.result (1280 + c.from16-label.result) ∙ loop.invariant.2),
+          omega (arith, pre.0, pre.2, loop.invariant.0, loop.invariant.2, c.loop-i-test.true, c.from-two.ensures, pre.3 (args.ones + args.tied + (loop.i - 1)) (omega (arith, loop.invariant.0, c.loop-i-test.true))) in it)) loop.invariant.1,
+      length-set (set loop.labels c.from-one.result (1280 + c.from-label.result)) c.from-two.result (1280 + c.from-label.result) ∙ (length-set loop.labels c.from-one.result (1280 + c.from-label.result) ∙ loop.invariant.2),
     )
 
 pub shape_of-labels : goal.shape_of-labels

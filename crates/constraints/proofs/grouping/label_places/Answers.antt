@@ -17,7 +17,7 @@ pub bounds-labels-node : goal.bounds-labels-node
 bounds-labels-node c =
     let pre = c.requires in
     let loop = c.loop-p in
-    omega (arith, pre.0, pre.2, loop.invariant.3, c.wide16-node.ensures.0, c.loop-p-test.true, pre.3 loop.p c.loop-p-test.true)
+    omega (arith, pre.0, pre.2, loop.invariant.3, c.from-node.ensures, c.loop-p-test.true, pre.3 loop.p c.loop-p-test.true)
 
 pub bounds-labels-p : goal.bounds-labels-p
 bounds-labels-p c = omega (arith, c.requires.0, c.requires.2, c.loop-p.invariant.3, c.loop-p-test.true)
@@ -30,7 +30,7 @@ loop-p-preserved c =
     let h = c.loop-p-test.true in
     let kept = label_kept args.nodes.now loop.labels args.labels.now loop.p (pre.3 loop.p h) (pre.4 loop.p h) loop.invariant.1 loop.invariant.2 in (
       omega arith,
-      fill_more (λ q. q) (λ q v. v ≡ get_or args.labels.now (get_or args.nodes.now q 0) 0) loop.labels loop.p _ (omega (arith, pre.0, pre.2, loop.invariant.3, h)) (λ q l r. omega arith) loop.invariant.1 (rw c.wide16-node.ensures.0 kept),
+      fill_more (λ q. q) (λ q v. v ≡ get_or args.labels.now (get_or args.nodes.now q 0) 0) loop.labels loop.p _ (omega (arith, pre.0, pre.2, loop.invariant.3, h)) (λ q l r. omega arith) loop.invariant.1 (rw c.from-node.ensures kept),
       λ q l. get_or-set_other loop.labels loop.p q _ 0 (λ e. omega arith) ∙ loop.invariant.2 q (omega arith),
       length-set loop.labels _ _ ∙ loop.invariant.3,
     )

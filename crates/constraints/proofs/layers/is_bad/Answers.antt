@@ -10,4 +10,4 @@ pub returns-then-only : goal.returns-then-only
 returns-then-only c = sym (bad-other _ _ _ _ _ c.if-only.true c.if-c-class.false)
 
 pub returns : goal.returns
-returns c = rw (c.at16.ensures, c.wide16.ensures.0) (sym (bad-marked _ _ _ _ _ c.if-only.false c.if-c-class.false))
+returns c = rw (c.at.ensures, c.from.ensures) (sym (bad-marked _ _ _ _ _ c.if-only.false c.if-c-class.false))

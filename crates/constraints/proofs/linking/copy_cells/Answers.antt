@@ -13,10 +13,10 @@ pub loop-i-preserved : goal.loop-i-preserved
 loop-i-preserved c =
     let loop = c.loop-i in
     let args = c.args in
-    rw c.put16.ensures (
+    rw c.put.ensures (
       omega arith,
-      fill_more (λ p. args.at + p) (λ p v. v ≡ get_or args.source.now (args.from + p) 0) loop.target loop.i c.at16.result
-          (omega (arith, loop.invariant.3, c.requires)) (λ p h q. omega arith) loop.invariant.1 c.at16.ensures,
+      fill_more (λ p. args.at + p) (λ p v. v ≡ get_or args.source.now (args.from + p) 0) loop.target loop.i c.at.result
+          (omega (arith, loop.invariant.3, c.requires)) (λ p h q. omega arith) loop.invariant.1 c.at.ensures,
       kept_set args.target.now loop.target _ _ _ (omega arith) loop.invariant.2,
       length-set loop.target _ _ ∙ loop.invariant.3,
     )

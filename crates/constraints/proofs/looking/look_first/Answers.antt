@@ -13,7 +13,7 @@ returns-then-not-is_end c =
     let pre = c.requires in
     let place = c.place-group.ensures.0 in
     first-unlinked _ _ _ _ _ _ pre.2 pre.3
-    (rw place at (no_start _ _ _ _ pre.4 (omega (arith, place, pre.3.low c.args.a (omega arith))) (sym c.at16.ensures ∙ c.if-at16-eq0.true)))
+    (rw place at (no_start _ _ _ _ pre.4 (omega (arith, place, pre.3.low c.args.a (omega arith))) (sym c.at.ensures ∙ c.if-at-eq0.true)))
     (rw place at (c.is_end.ensures c.if-not-is_end.true)) pre.5 place
 
 pub look_around-requires : goal.look_around-requires

@@ -14,8 +14,8 @@ returns-then-noted-eq0 c = record { low = omega (arith, c.requires.0); high = om
 pub loop-a-init : goal.loop-a-init
 loop-a-init c = (omega arith, omega (arith, c.requires.0, c.if-turn-eq0.false), λ m h l. absurd (omega arith))
 
-pub returns-then-at16-ne0 : goal.returns-then-at16-ne0
-returns-then-at16-ne0 c =
+pub returns-then-at-ne0 : goal.returns-then-at-ne0
+returns-then-at-ne0 c =
     let loop = c.loop-a in
     record {
       low = omega (arith, loop.invariant.0);
@@ -27,7 +27,7 @@ returns-then-at16-ne0 c =
 pub loop-a-preserved : goal.loop-a-preserved
 loop-a-preserved c =
     let loop = c.loop-a in
-    (omega arith, omega (arith, c.loop-a-test.true), below_more _ _ loop.invariant.2 (λ l. sym c.at16.ensures ∙ c.if-at16-ne0.false))
+    (omega arith, omega (arith, c.loop-a-test.true), below_more _ _ loop.invariant.2 (λ l. sym c.at.ensures ∙ c.if-at-ne0.false))
 
 pub returns : goal.returns
 returns c =

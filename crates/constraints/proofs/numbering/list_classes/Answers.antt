@@ -10,7 +10,7 @@ pub loop-p-init : goal.loop-p-init
 loop-p-init c = (omega arith, λ p h. absurd (omega arith), refl)
 
 pub class_at-requires : goal.class_at-requires
-class_at-requires c = rw c.wide16.ensures.0 (c.requires.2 c.loop-p.p c.loop-p-test.true)
+class_at-requires c = rw c.from.ensures (c.requires.2 c.loop-p.p c.loop-p-test.true)
 
 pub bounds-classes-p : goal.bounds-classes-p
 bounds-classes-p c = omega (arith, c.loop-p.invariant.2, c.requires.1)
@@ -21,7 +21,7 @@ loop-p-preserved c =
     let args = c.args in (
       omega arith,
       fill_more (λ p. p) (λ p v. v ≡ get_or args.cache.now (get_or args.nodes.now p 0 * 3 + 2) 0) loop.classes loop.p c.class_at.result
-          (omega (arith, loop.invariant.2, c.requires.1)) (λ p h q. omega arith) loop.invariant.1 (rw c.wide16.ensures.0 at c.class_at.ensures),
+          (omega (arith, loop.invariant.2, c.requires.1)) (λ p h q. omega arith) loop.invariant.1 (rw c.from.ensures at c.class_at.ensures),
       length-set loop.classes _ _ ∙ loop.invariant.2,
     )
 

@@ -25,12 +25,12 @@ bounds-nexts-q c = omega (arith, c.loop-follow.invariant.high)
 pub loop-follow-smaller : goal.loop-follow-smaller
 loop-follow-smaller c =
     let test = c.loop-follow-test in
-    omega (arith, (c.requires.6 (c.loop-follow.follow - 1) (omega (arith, c.loop-follow.invariant.high, test.true))).high, c.wide16-follow.ensures.0, test.true)
+    omega (arith, (c.requires.6 (c.loop-follow.follow - 1) (omega (arith, c.loop-follow.invariant.high, test.true))).high, c.from-follow.ensures, test.true)
 
 pub loop-follow-preserved : goal.loop-follow-preserved
 loop-follow-preserved c =
     let test = c.loop-follow-test in
-    rw c.wide16-follow.ensures.0
+    rw c.from-follow.ensures
     (follow-next _ _ (omega (arith, test.true)) (c.requires.6 (c.loop-follow.follow - 1) (omega (arith, c.loop-follow.invariant.high, test.true))) c.if-numbers-q.false c.loop-follow.invariant)
 
 pub returns : goal.returns

@@ -15,7 +15,7 @@ node_of-node-requires c =
     let loop = c.loop-p in
     let few : loop.p ≤ 1280 = omega (arith, c.loop-p-test.true) in
     let key = bucket-key c.args.numbers.now loop.p _ _ c.bucket-key.ensures.0 refl in
-    (omega arith, omega (arith, c.loop-p-test.true), omega (arith, loop.invariant.3), omega (arith, loop.invariant.2.nexts_long), loop.invariant.1, rw (c.wide16.ensures.0, sym key) (loop.invariant.2.head c.bucket-key.result (omega (arith, c.bucket-key.ensures.1))), loop.invariant.2.next)
+    (omega arith, omega (arith, c.loop-p-test.true), omega (arith, loop.invariant.3), omega (arith, loop.invariant.2.nexts_long), loop.invariant.1, rw (c.from.ensures, sym key) (loop.invariant.2.head c.bucket-key.result (omega (arith, c.bucket-key.ensures.1))), loop.invariant.2.next)
 
 pub bounds-nodes-p : goal.bounds-nodes-p
 bounds-nodes-p c = omega (arith, c.loop-p.invariant.3, c.loop-p-test.true)

@@ -3,4 +3,4 @@ use Rattle.constraints.proofs.Filling.{number-at}
 use Rattle.constraints.proofs.numbering.request_number.Goals as goal
 
 pub returns : goal.returns
-returns c = number-at _ _ _ _ c.from16.ensures.0 c.from16-2.ensures.0 c.from16-2.ensures.1
+returns c = number-at _ _ _ _ c.from.ensures c.from-2.ensures c.from-2.ensures.1

@@ -8,4 +8,4 @@ returns-then-row-t c = c.request_number.ensures
 
 pub returns : goal.returns
 unfolding request_in
-returns c = rw (c.at16.ensures, c.at16-2.ensures) at c.request_number-2.ensures
+returns c = rw (c.at.ensures, c.at-2.ensures) at c.request_number-2.ensures

@@ -4,18 +4,18 @@ use Rattle.constraints.proofs.Pairing.{marked-out, unmarked-out}
 use Rattle.constraints.proofs.Supers.{above_same, above_other}
 use Rattle.constraints.proofs.pairs.out_agrees.Goals as goal
 
-pub returns-then-at16-stamp : goal.returns-then-at16-stamp
-returns-then-at16-stamp c = sym (unmarked-out _ _ _ _ _ _ _ (λ q. c.if-at16-stamp.true (c.at16.ensures ∙ q)))
+pub returns-then-at-stamp : goal.returns-then-at-stamp
+returns-then-at-stamp c = sym (unmarked-out _ _ _ _ _ _ _ (λ q. c.if-at-stamp.true (c.at.ensures ∙ q)))
 
 pub returns-then-place-class : goal.returns-then-place-class
 returns-then-place-class c =
     sym
-    (marked-out _ _ _ _ _ _ _ (sym c.at16.ensures ∙ c.if-at16-stamp.false)
+    (marked-out _ _ _ _ _ _ _ (sym c.at.ensures ∙ c.if-at-stamp.false)
     ∙ above_same _ _ _ _ (sym c.place.ensures.0 ∙ c.if-place-class.true ∙ c.place-class.ensures.0))
 
 pub returns : goal.returns
 returns c =
-    rw (c.at16-2.ensures, c.place-class.ensures.0)
+    rw (c.at-2.ensures, c.place-class.ensures.0)
     (sym
-    (marked-out _ _ _ _ _ _ _ (sym c.at16.ensures ∙ c.if-at16-stamp.false)
+    (marked-out _ _ _ _ _ _ _ (sym c.at.ensures ∙ c.if-at-stamp.false)
     ∙ above_other _ _ _ _ (λ q. c.if-place-class.false (c.place.ensures.0 ∙ q ∙ sym c.place-class.ensures.0))))

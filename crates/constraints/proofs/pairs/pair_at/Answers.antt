@@ -4,17 +4,17 @@ use Rattle.constraints.specs.Pairs.{tied}
 use Rattle.constraints.proofs.Pairing.{judged-same, judged-out, judged-into, judged-both}
 use Rattle.constraints.proofs.pairs.pair_at.Goals as goal
 
-pub returns-then-at16 : goal.returns-then-at16
-returns-then-at16 c =
+pub returns-then-at : goal.returns-then-at
+returns-then-at c =
     let one = c.if-place-group.true in
     judged-same _ _ _ _ _ _ _ _ _ (sym c.place.ensures.0 ∙ one ∙ c.place-group.ensures.0)
-    (sym c.at16.ensures ∙ c.if-at16.true ∙ c.at16-then-place-group.ensures)
+    (sym c.at.ensures ∙ c.if-at.true ∙ c.at-then-place-group.ensures)
 
 pub returns-then-place-group : goal.returns-then-place-group
 returns-then-place-group c =
     let one = c.if-place-group.true in
     tied (sym c.place.ensures.0 ∙ one ∙ c.place-group.ensures.0)
-    (λ q. c.if-at16.false (c.at16.ensures ∙ q ∙ sym c.at16-then-place-group.ensures))
+    (λ q. c.if-at.false (c.at.ensures ∙ q ∙ sym c.at-then-place-group.ensures))
 
 pub returns-then-not-out_agrees : goal.returns-then-not-out_agrees
 returns-then-not-out_agrees c =

@@ -37,13 +37,13 @@ module _ (c : After-label_links) where
   labels = c.label_links.new.labels
 
   cached-is : cached ≡ at_most cache_limit (get_or counts count_cache 0)
-  cached-is = c.at_most-cached.ensures.0 ∙ ap (at_most cache_limit) c.at16.ensures
+  cached-is = c.at_most-cached.ensures.0 ∙ ap (at_most cache_limit) c.at.ensures
 
   tied_is : tied ≡ at_most cache_limit (get_or counts count_ties 0)
-  tied_is = c.at_most-tied.ensures.0 ∙ ap (at_most cache_limit) c.at16-2.ensures
+  tied_is = c.at_most-tied.ensures.0 ∙ ap (at_most cache_limit) c.at-2.ensures
 
   noted-is : noted ≡ at_most cache_limit (get_or counts count_subtypes 0)
-  noted-is = c.at_most-noted.ensures.0 ∙ ap (at_most cache_limit) c.at16-3.ensures
+  noted-is = c.at_most-noted.ensures.0 ∙ ap (at_most cache_limit) c.at-3.ensures
 
   range : (count : ℕ) → count ≤ tied + tied + noted → InRange froms tos count
   range = in-range c.link_nodes.ensures c.number_nodes.ensures c.at_most-cached.ensures.1 c.at_most-noted.ensures.1 c.at_most-tied.ensures.1

@@ -17,7 +17,7 @@ pub returns-then-size : goal.returns-then-size
 returns-then-size c = list-none _ c.args.list.now _ _ c.if-size.true c.best_chain-size.ensures.1
 
 pub write_list-requires : goal.write_list-requires
-write_list-requires c = omega (arith, c.wide16.ensures.0, held_fits c.best_chain-size.ensures.0 c.if-size.false)
+write_list-requires c = omega (arith, c.from.ensures, held_fits c.best_chain-size.ensures.0 c.if-size.false)
 
 pub returns : goal.returns
-returns c = list-some _ c.args.list.now _ _ _ _ c.if-size.false c.best_chain-size.ensures.1 c.wide16.ensures.0 c.write_list.ensures
+returns c = list-some _ c.args.list.now _ _ _ _ c.if-size.false c.best_chain-size.ensures.1 c.from.ensures c.write_list.ensures

@@ -11,8 +11,8 @@ loop-i-init c = (omega arith, refl, write-none _ _ _)
 pub loop-i-preserved : goal.loop-i-preserved
 loop-i-preserved c =
     let i = c.loop-i.invariant in
-    let e = c.put16.ensures in
-    (omega (arith, i.0), ap length e ∙ simp length-set i.1, e ∙ write-more _ _ _ _ _ _ _ (omega (arith, c.loop-i-test.true)) i.0 c.at16.ensures i.2)
+    let e = c.put.ensures in
+    (omega (arith, i.0), ap length e ∙ simp length-set i.1, e ∙ write-more _ _ _ _ _ _ _ (omega (arith, c.loop-i-test.true)) i.0 c.at.ensures i.2)
 
 pub shape_of-list : goal.shape_of-list
 shape_of-list c = c.loop-i.invariant.1

@@ -13,8 +13,8 @@ returns-then-not-breaks_alone c = (c.requires.0, alone-not _ _ _ _ _ _ _ _ _ _ c
 
 pub returns-then-not-comes_first : goal.returns-then-not-comes_first
 returns-then-not-comes_first c =
-    (c.requires.0, alone-later _ _ _ _ _ _ _ _ _ c.breaks_alone.ensures c.if-not-breaks_alone.false _ c.at16-label.ensures _ _ _ c.if-size-eq1.true c.at16.ensures (sym c.comes_first.ensures ∙ c.if-not-comes_first.true))
+    (c.requires.0, alone-later _ _ _ _ _ _ _ _ _ c.breaks_alone.ensures c.if-not-breaks_alone.false _ c.at-label.ensures _ _ _ c.if-size-eq1.true c.at.ensures (sym c.comes_first.ensures ∙ c.if-not-comes_first.true))
 
 pub returns : goal.returns
 returns c =
-    (inl refl, rw c.put16.ensures (alone-sooner _ _ _ _ _ _ _ _ _ c.breaks_alone.ensures c.if-not-breaks_alone.false _ c.at16-label.ensures _ _ c.requires.0 (omega (arith, c.requires.1)) (λ e. elim c.if-size-eq1.branch [ then-size-eq1+else-not-comes_first w ↦ sym (w.comes_first.ensures ∙ ap (λ (z : ℕ). row_before _ z) w.at16.ensures) ∙ w.if-not-comes_first.false | else-size-eq1 w ↦ absurd (w.if-size-eq1.false e) ])))
+    (inl refl, rw c.put.ensures (alone-sooner _ _ _ _ _ _ _ _ _ c.breaks_alone.ensures c.if-not-breaks_alone.false _ c.at-label.ensures _ _ c.requires.0 (omega (arith, c.requires.1)) (λ e. elim c.if-size-eq1.branch [ then-size-eq1+else-not-comes_first w ↦ sym (w.comes_first.ensures ∙ ap (λ (z : ℕ). row_before _ z) w.at.ensures) ∙ w.if-not-comes_first.false | else-size-eq1 w ↦ absurd (w.if-size-eq1.false e) ])))

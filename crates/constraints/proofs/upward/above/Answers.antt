@@ -6,8 +6,8 @@ use Rattle.constraints.proofs.upward.above.Goals as goal
 
 pub returns-then-class-up : goal.returns-then-class-up
 returns-then-class-up c =
-    (super-high _ _ _ (c.wide8-up.ensures.0 ∙ c.at8.ensures) (omega arith), omega arith, omega arith)
+    (super-high _ _ _ (c.from-up.ensures ∙ c.at.ensures) (omega arith), omega arith, omega arith)
 
 pub returns-else-class-up : goal.returns-else-class-up
 returns-else-class-up c =
-    (super-low _ _ _ (c.wide8-up.ensures.0 ∙ c.at8.ensures) (omega arith), omega arith, omega arith)
+    (super-low _ _ _ (c.from-up.ensures ∙ c.at.ensures) (omega arith), omega arith, omega arith)

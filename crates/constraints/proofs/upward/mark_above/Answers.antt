@@ -15,7 +15,7 @@ loop-next-smaller c = omega (arith, c.above-next-in-loop-next.ensures.1, c.loop-
 pub loop-next-preserved : goal.loop-next-preserved
 loop-next-preserved c =
     let above = c.above-next-in-loop-next in
-    rw c.put16.ensures
+    rw c.put.ensures
     (raising-next _ _ _ _ _ _ _ (omega (arith, c.loop-next-test.true)) c.loop-next.invariant above.ensures.0 above.ensures.2)
 
 pub shape_of-aboves : goal.shape_of-aboves

@@ -18,4 +18,4 @@ overflow_add-from-4 c = omega (arith, c.requires)
 
 pub returns : goal.returns
 unfolding put_level level_in
-returns c = rw (c.put16-5.ensures, c.put16-4.ensures, c.put16-3.ensures, c.put16-2.ensures, c.put16.ensures, c.wide16.ensures.0, c.at16-subtypes.ensures, c.at16-ties.ensures, c.at16-cache.ensures, c.at16-kept.ensures, c.at16-classes.ensures)
+returns c = rw (c.put-5.ensures, c.put-4.ensures, c.put-3.ensures, c.put-2.ensures, c.put.ensures, c.from.ensures, c.at-subtypes.ensures, c.at-ties.ensures, c.at-cache.ensures, c.at-kept.ensures, c.at-classes.ensures)

@@ -7,10 +7,10 @@ pub loop-k-init : goal.loop-k-init
 loop-k-init c = (omega arith, moved_none _)
 
 pub copy_level-requires : goal.copy_level-requires
-copy_level-requires c = omega (arith, c.wide16.ensures.1)
+copy_level-requires c = omega (arith, c.from.ensures.1)
 
 pub loop-k-preserved : goal.loop-k-preserved
-loop-k-preserved c = (omega (arith, c.loop-k-test.true), rw (c.copy_level.ensures, c.wide16.ensures.0) (moved-next _ _ _ c.loop-k.invariant.1))
+loop-k-preserved c = (omega (arith, c.loop-k-test.true), rw (c.copy_level.ensures, c.from.ensures) (moved-next _ _ _ c.loop-k.invariant.1))
 
 pub shape_of-counts : goal.shape_of-counts
 shape_of-counts c = ap length c.loop-k.invariant.1 ∙ moved_length _ _

@@ -10,8 +10,8 @@ use Rattle.execution.proofs.ahead.go_ahead.Goals as goal
 pub returns-then-most-eq0 : goal.returns-then-most-eq0
 returns-then-most-eq0 c = (λ E I S w m. rw c.no_walk.ensures (none_ahead _ _ w), omega (arith, c.no_walk.ensures))
 
-pub returns-then-at16-ne0 : goal.returns-then-at16-ne0
-returns-then-at16-ne0 c = (λ E I S w m. rw c.no_walk-then-at16-ne0.ensures (none_ahead _ _ w), omega (arith, c.no_walk-then-at16-ne0.ensures))
+pub returns-then-at-ne0 : goal.returns-then-at-ne0
+returns-then-at-ne0 c = (λ E I S w m. rw c.no_walk-then-at-ne0.ensures (none_ahead _ _ w), omega (arith, c.no_walk-then-at-ne0.ensures))
 
 pub returns-then-n-eq0 : goal.returns-then-n-eq0
 returns-then-n-eq0 c = (λ E I S w m. rw c.no_walk-then-n-eq0.ensures (none_ahead _ _ w), omega (arith, c.no_walk-then-n-eq0.ensures))
@@ -35,4 +35,4 @@ pub walk-requires : goal.walk-requires
 walk-requires c = (part-size _ _ _ _ _ _ _ _ c.requires.0.whole _ _ c.turn-task.ensures c.frame_count-n.ensures c.if-n-eq0.false _ c.row-b.ensures _ c.wide32-from.ensures.0, part-few _ _ _ _ _ _ _ _ c.requires.0.whole _ _ c.turn-task.ensures c.frame_count-n.ensures c.if-n-eq0.false _ c.row-b.ensures _ c.wide32-from.ensures.0, c.if-code-gt-CODE_LIMIT.false, c.key_of-key.ensures.1, (_, numbers-lent _ c.first_number-first.result _ c.requires.1 c.first_number-first.ensures.1))
 
 pub returns : goal.returns
-returns c = (λ E I S w m. rw (← c.turn-task.ensures) (ahead-part _ _ _ E I S _ _ w _ _ c.turn-task.ensures c.frame_count-n.ensures c.if-n-eq0.false _ c.row-b.ensures _ _ m _ _ _ _ _ _ c.frame_class-c.ensures c.frame_method-m.ensures c.file_of-file.ensures c.code_of-code.ensures c.version.ensures c.if-m-ge8.false c.key_of-key.ensures.0 (sym c.at16.ensures ∙ c.if-at16-ne0.false) _ _ _ _ c.wide32-from.ensures.0 (c.walk.ensures.0 _ (numbers-lent _ c.first_number-first.result _ c.requires.1 c.first_number-first.ensures.1))), c.walk.ensures.1)
+returns c = (λ E I S w m. rw (← c.turn-task.ensures) (ahead-part _ _ _ E I S _ _ w _ _ c.turn-task.ensures c.frame_count-n.ensures c.if-n-eq0.false _ c.row-b.ensures _ _ m _ _ _ _ _ _ c.frame_class-c.ensures c.frame_method-m.ensures c.file_of-file.ensures c.code_of-code.ensures c.version.ensures c.if-m-ge8.false c.key_of-key.ensures.0 (sym c.at.ensures ∙ c.if-at-ne0.false) _ _ _ _ c.wide32-from.ensures.0 (c.walk.ensures.0 _ (numbers-lent _ c.first_number-first.result _ c.requires.1 c.first_number-first.ensures.1))), c.walk.ensures.1)

@@ -21,7 +21,7 @@ pub returns-in-Keep : goal.returns-in-Keep
 returns-in-Keep c = rw c.in-Keep.is (refl, refl, refl, c.write_moved.ensures)
 
 pub returns-in-Jump : goal.returns-in-Jump
-returns-in-Jump c = rw c.in-Jump.is (refl, refl, refl, rw (c.write_moved-in-Jump.ensures, c.from16.ensures.0))
+returns-in-Jump c = rw c.in-Jump.is (refl, refl, refl, rw (c.write_moved-in-Jump.ensures, c.from.ensures))
 
 pub returns-in-Above : goal.returns-in-Above
 returns-in-Above c = rw c.in-Above.is (refl, refl, refl, c.push.ensures)

@@ -6,4 +6,4 @@ use Rattle.execution.proofs.carrying.make.Goals as goal
 pub returns : goal.returns
 unfolding value_of pick
 returns c =
-    record { counted = c.take_row.ensures; made = rw (c.write_new.ensures, c.from16.ensures.0); pushed = rw (c.push.ensures, c.from16-2.ensures.0) }
+    record { counted = c.take_row.ensures; made = rw (c.write_new.ensures, c.from.ensures); pushed = rw (c.push.ensures, c.from-2.ensures) }

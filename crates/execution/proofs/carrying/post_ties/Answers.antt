@@ -24,12 +24,12 @@ nothing-posted counts ties us e =
 pub returns-then-k-eq0 : goal.returns-then-k-eq0
 returns-then-k-eq0 c =
     let none = nothing-posted _ _ _ (sym c.tie_number-k.ensures.0 ∙ c.if-k-eq0.true) in
-    record { counted = none.0; written = none.1; behind = (c.at16-n.ensures, c.at16-subtypes.ensures) }
+    record { counted = none.0; written = none.1; behind = (c.at-n.ensures, c.at-subtypes.ensures) }
 
 pub overflow_add-n : goal.overflow_add-n
 overflow_add-n c =
-    omega (arith, c.at16-n.ensures, c.requires, c.tie_number-k.ensures.0)
+    omega (arith, c.at-n.ensures, c.requires, c.tie_number-k.ensures.0)
 
 pub returns : goal.returns
 returns c =
-    record { counted = rw (c.put16.ensures, c.tie_number-k.ensures.0, c.at16-n.ensures); written = rw (c.write_ties.ensures, c.at16-n.ensures); behind = (c.at16-n.ensures, c.at16-subtypes.ensures) }
+    record { counted = rw (c.put.ensures, c.tie_number-k.ensures.0, c.at-n.ensures); written = rw (c.write_ties.ensures, c.at-n.ensures); behind = (c.at-n.ensures, c.at-subtypes.ensures) }

@@ -14,4 +14,4 @@ pub returns-then-two-gt255 : goal.returns-then-two-gt255
 returns-then-two-gt255 c = λ h. absurd (false≢true h)
 
 pub returns : goal.returns
-returns c = λ h. old-found _ _ _ _ _ _ (rw c.at16.ensures at c.new_ties-posting.ensures) c.tie_number.ensures.0 (eqb-true _ _ h)
+returns c = λ h. old-found _ _ _ _ _ _ (rw c.at.ensures at c.new_ties-posting.ensures) c.tie_number.ensures.0 (eqb-true _ _ h)

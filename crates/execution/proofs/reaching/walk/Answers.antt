@@ -28,7 +28,7 @@ pub shape_of-row-then-not-m : goal.shape_of-row-then-not-m
 shape_of-row-then-not-m c = c.reach-m.auto.row ∙ (c.loop-k.invariant.1.3 ∙ sym c.requires.0)
 
 pub returns-then-not-m : goal.returns-then-not-m
-returns-then-not-m c = (walk-stops _ _ _ _ _ _ _ _ _ _ _ _ _ _ _ _ c.loop-k.invariant.0 _ c.reach-m.ensures _ _ _ c.wide32-at.ensures.0 c.at8.ensures (search rules) c.wide8.ensures.0 c.at8-number.ensures (not-true _ c.if-not-m.true), c.loop-k.invariant.2)
+returns-then-not-m c = (walk-stops _ _ _ _ _ _ _ _ _ _ _ _ _ _ _ _ c.loop-k.invariant.0 _ c.reach-m.ensures _ _ _ c.wide32-at.ensures.0 c.at.ensures (search rules) c.from.ensures c.at-number.ensures (not-true _ c.if-not-m.true), c.loop-k.invariant.2)
 
 pub overflow_add-k : goal.overflow_add-k
 overflow_add-k c = omega (arith, c.loop-k-test.true, c.ranges.most)
@@ -37,7 +37,7 @@ pub loop-k-smaller : goal.loop-k-smaller
 loop-k-smaller c = omega (arith, c.loop-k-test.true)
 
 pub loop-k-preserved : goal.loop-k-preserved
-loop-k-preserved c = let z = walk_more _ _ _ _ _ _ _ _ _ _ _ _ _ _ _ _ c.loop-k.invariant.0 _ c.reach-m.ensures _ _ _ c.wide32-at.ensures.0 c.at8.ensures (search rules) c.wide8.ensures.0 c.at8-number.ensures c.requires.4 c.loop-k.invariant.1 (not-false _ c.if-not-m.false) in (z.0, z.1, omega (arith, c.loop-k-test.true), c.reach-m.auto.objects ∙ c.loop-k.invariant.3)
+loop-k-preserved c = let z = walk_more _ _ _ _ _ _ _ _ _ _ _ _ _ _ _ _ c.loop-k.invariant.0 _ c.reach-m.ensures _ _ _ c.wide32-at.ensures.0 c.at.ensures (search rules) c.from.ensures c.at-number.ensures c.requires.4 c.loop-k.invariant.1 (not-false _ c.if-not-m.false) in (z.0, z.1, omega (arith, c.loop-k-test.true), c.reach-m.auto.objects ∙ c.loop-k.invariant.3)
 
 pub shape_of-objects : goal.shape_of-objects
 shape_of-objects c = c.loop-k.invariant.3

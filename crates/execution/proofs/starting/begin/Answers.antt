@@ -8,7 +8,7 @@ pub returns : goal.returns
 unfolding value_of pick filled
 returns c =
     record {
-      counted = rw (c.put16.ensures, c.write_frame_count.ensures, c.take_row.ensures);
-      made = rw (c.write_new.ensures, c.from16.ensures.0);
-      entered = rw (c.write_entry.ensures, c.row.ensures, c.from16-2.ensures.0, c.empty.ensures, c.empty-2.ensures, c.empty-3.ensures);
+      counted = rw (c.put.ensures, c.write_frame_count.ensures, c.take_row.ensures);
+      made = rw (c.write_new.ensures, c.from.ensures);
+      entered = rw (c.write_entry.ensures, c.row.ensures, c.from-2.ensures, c.empty.ensures, c.empty-2.ensures, c.empty-3.ensures);
     }

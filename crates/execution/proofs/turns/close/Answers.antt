@@ -7,4 +7,4 @@ pub returns-then-not-went_on : goal.returns-then-not-went_on
 returns-then-not-went_on c = closed-not _ _ (sym c.went_on.ensures ∙ c.if-not-went_on.true)
 
 pub returns : goal.returns
-returns c = rw c.put16.ensures (closed_on _ _ (sym c.went_on.ensures ∙ c.if-not-went_on.false))
+returns c = rw c.put.ensures (closed_on _ _ (sym c.went_on.ensures ∙ c.if-not-went_on.false))

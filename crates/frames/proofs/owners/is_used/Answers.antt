@@ -4,10 +4,10 @@ use Rattle.definition.specs.Instructions.{pick}
 use Rattle.frames.specs.Unused.{is_used}
 use Rattle.frames.proofs.owners.is_used.Goals as goal
 
-pub returns-then-o-from16 : goal.returns-then-o-from16
+pub returns-then-o-from : goal.returns-then-o-from
 unfolding is_used pick
-returns-then-o-from16 c = rw (lt-ltb _ _ (rw (c.from16.ensures.0, c.at16.ensures) at c.if-o-from16.true), c.owner.ensures)
+returns-then-o-from c = rw (lt-ltb _ _ (rw (c.from.ensures, c.at.ensures) at c.if-o-from.true), c.owner.ensures)
 
-pub returns-else-o-from16 : goal.returns-else-o-from16
+pub returns-else-o-from : goal.returns-else-o-from
 unfolding is_used pick
-returns-else-o-from16 c = rw (le-ltb _ _ (rw (c.from16.ensures.0, c.at16.ensures) at c.if-o-from16.false))
+returns-else-o-from c = rw (le-ltb _ _ (rw (c.from.ensures, c.at.ensures) at c.if-o-from.false))

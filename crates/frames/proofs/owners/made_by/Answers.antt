@@ -29,13 +29,13 @@ bounds-counts-o c = c.held16-held.ensures.here _ c.loop-o-test.true
 pub overflow_add-made : goal.overflow_add-made
 overflow_add-made c =
     let h = c.held16-held.ensures.few in
-    let w = c.wide16-rows.ensures.1 in
+    let w = c.from-rows.ensures.1 in
     omega (arith, h, w, c.loop-o.invariant.0, c.loop-o-test.true)
 
 pub overflow_add-o-in-loop-o : goal.overflow_add-o-in-loop-o
 overflow_add-o-in-loop-o c =
     let h = c.held16-held.ensures.few in
-    let w = c.wide16-rows.ensures.1 in
+    let w = c.from-rows.ensures.1 in
     omega (arith, h, w, c.loop-o-test.true)
 
 pub loop-o-preserved : goal.loop-o-preserved
@@ -53,7 +53,7 @@ returns c =
     let a = c.args in
     let N = a.counts.now in
     let n = c.held16-held.result in
-    let w = c.from8-own.result + 1 in
-    let e : w ≡ suc a.task = omega (arith, c.from8-own.ensures.0) in
+    let w = c.from-own.result + 1 in
+    let e : w ≡ suc a.task = omega (arith, c.from-own.ensures) in
     let z : l.made ≡ owned_in N w n 0 = omega (arith, owned-end N w n l.o c.loop-o-test.false, l.invariant.2) in
-    z ∙ (ap (λ (x : ℕ). owned_in N x n 0) e ∙ held-made N a.task n (rw (c.wide16-rows.ensures.0 ∙ c.at16.ensures) at c.held16-held.ensures))
+    z ∙ (ap (λ (x : ℕ). owned_in N x n 0) e ∙ held-made N a.task n (rw (c.from-rows.ensures ∙ c.at.ensures) at c.held16-held.ensures))

@@ -8,13 +8,13 @@ use Rattle.frames.proofs.owners.unused.Goals as goal
 
 pub loop-o-init : goal.loop-o-init
 unfolding unused_from
-loop-o-init c = rw c.at16-n.ensures
+loop-o-init c = rw c.at-n.ensures
 
 pub returns-then-owner-eq0 : goal.returns-then-owner-eq0
 returns-then-owner-eq0 c =
     let l = c.loop-o in
     let e : owner_at c.args.counts.now l.o ≡ 0 =
-    rw (← c.from16.ensures.0) (sym c.owner.ensures ∙ c.if-owner-eq0.true) in
+    rw (← c.from.ensures) (sym c.owner.ensures ∙ c.if-owner-eq0.true) in
     sym (ownerless-here _ _ _ c.loop-o-test.true e) ∙ l.invariant
 
 pub overflow_add-o : goal.overflow_add-o
@@ -27,7 +27,7 @@ pub loop-o-preserved : goal.loop-o-preserved
 loop-o-preserved c =
     let l = c.loop-o in
     let e : owner_at c.args.counts.now l.o ≢ 0 =
-    λ z. c.if-owner-eq0.false (c.owner.ensures ∙ rw c.from16.ensures.0 z) in
+    λ z. c.if-owner-eq0.false (c.owner.ensures ∙ rw c.from.ensures z) in
     sym (ownerless-on _ _ _ c.loop-o-test.true e) ∙ l.invariant
 
 pub returns : goal.returns

@@ -2,4 +2,4 @@
 use Rattle.frames.proofs.owners.write_owner.Goals as goal
 
 pub returns : goal.returns
-returns c = rw (c.put16.ensures, c.wide32.ensures.0)
+returns c = rw (c.put.ensures, c.wide32.ensures.0)

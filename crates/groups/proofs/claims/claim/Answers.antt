@@ -7,7 +7,7 @@ use Rattle.groups.proofs.Rooting.{joined-low}
 use Rattle.groups.proofs.claims.claim.Goals as goal
 
 pub returns-then-first-eq0 : goal.returns-then-first-eq0
-returns-then-first-eq0 c = fresh (sym c.wide16-first.ensures.0 ∙ c.if-first-eq0.true) refl refl refl
+returns-then-first-eq0 c = fresh (sym c.from-first.ensures ∙ c.if-first-eq0.true) refl refl refl
 
 pub overflow_add-firsts-2 : goal.overflow_add-firsts-2
 overflow_add-firsts-2 c = omega (arith, joined-low c.join-lowest.ensures)
@@ -16,4 +16,4 @@ pub overflow_cast-firsts-2 : goal.overflow_cast-firsts-2
 overflow_cast-firsts-2 c = omega (arith, joined-low c.join-lowest.ensures)
 
 pub returns : goal.returns
-returns c = joins (c.wide16-first.result - 1) (omega (arith, c.wide16-first.ensures.0, c.if-first-eq0.false)) refl c.join-lowest.ensures
+returns c = joins (c.from-first.result - 1) (omega (arith, c.from-first.ensures, c.if-first-eq0.false)) refl c.join-lowest.ensures

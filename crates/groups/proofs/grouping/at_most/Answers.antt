@@ -7,7 +7,7 @@ use Rattle.groups.proofs.grouping.at_most.Goals as goal
 
 pub returns-then-count-le-TIE_LIMIT : goal.returns-then-count-le-TIE_LIMIT
 unfolding at_most
-returns-then-count-le-TIE_LIMIT c = (rw (le-leb _ _ c.if-count-le-TIE_LIMIT.true, at_most) c.wide16.ensures.0, omega arith)
+returns-then-count-le-TIE_LIMIT c = (rw (le-leb _ _ c.if-count-le-TIE_LIMIT.true, at_most) c.from.ensures, omega arith)
 
 pub returns-else-count-le-TIE_LIMIT : goal.returns-else-count-le-TIE_LIMIT
 unfolding at_most

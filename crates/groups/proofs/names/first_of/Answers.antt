@@ -5,7 +5,7 @@ use Rattle.groups.specs.Firsts.{older, first}
 use Rattle.groups.proofs.names.first_of.Goals as goal
 
 pub returns-then-first-p : goal.returns-then-first-p
-returns-then-first-p c = older (omega (arith, c.wide8-first.ensures.0, c.if-first-p.true)) c.wide8-first.ensures.0 refl
+returns-then-first-p c = older (omega (arith, c.from-first.ensures, c.if-first-p.true)) c.from-first.ensures refl
 
 pub returns : goal.returns
-returns c = first (omega (arith, c.wide8-first.ensures.0, c.if-first-p.false)) refl refl
+returns c = first (omega (arith, c.from-first.ensures, c.if-first-p.false)) refl refl

@@ -21,7 +21,7 @@ overflow_mul-block c =
     let ties = c.args.ties.now in
     let h = c.loop-p-test.true in
     let few : c.loop-p.p < 256 = omega (arith, h, c.requires.0) in
-    let low = low-entered ties c.loop-p.p c.wide16-name.result c.wide16-name.ensures.0 few c.wide16-name.ensures.1 (omega (arith, c.loop-p.invariant.4)) c.loop-p.invariant.2 c.first_of-block.ensures in
+    let low = low-entered ties c.loop-p.p c.from-name.result c.from-name.ensures few c.from-name.ensures.1 (omega (arith, c.loop-p.invariant.4)) c.loop-p.invariant.2 c.first_of-block.ensures in
     omega (arith, low.1.low, few)
 
 pub overflow_add-block : goal.overflow_add-block
@@ -29,25 +29,25 @@ overflow_add-block c =
     let ties = c.args.ties.now in
     let h = c.loop-p-test.true in
     let few : c.loop-p.p < 256 = omega (arith, h, c.requires.0) in
-    let low = low-entered ties c.loop-p.p c.wide16-name.result c.wide16-name.ensures.0 few c.wide16-name.ensures.1 (omega (arith, c.loop-p.invariant.4)) c.loop-p.invariant.2 c.first_of-block.ensures in
-    omega (arith, low.1.low, few, c.wide16-name.ensures.1)
+    let low = low-entered ties c.loop-p.p c.from-name.result c.from-name.ensures few c.from-name.ensures.1 (omega (arith, c.loop-p.invariant.4)) c.loop-p.invariant.2 c.first_of-block.ensures in
+    omega (arith, low.1.low, few, c.from-name.ensures.1)
 
 pub first_of-node-requires : goal.first_of-node-requires
 first_of-node-requires c =
     let ties = c.args.ties.now in
     let h = c.loop-p-test.true in
     let few : c.loop-p.p < 256 = omega (arith, h, c.requires.0) in
-    let low = low-entered ties c.loop-p.p c.wide16-name.result c.wide16-name.ensures.0 few c.wide16-name.ensures.1 (omega (arith, c.loop-p.invariant.4)) c.loop-p.invariant.2 c.first_of-block.ensures in
-    (omega (arith, low.1.low, h, c.wide16-name.ensures.1, c.requires.3, c.loop-p.invariant.5), few)
+    let low = low-entered ties c.loop-p.p c.from-name.result c.from-name.ensures few c.from-name.ensures.1 (omega (arith, c.loop-p.invariant.4)) c.loop-p.invariant.2 c.first_of-block.ensures in
+    (omega (arith, low.1.low, h, c.from-name.ensures.1, c.requires.3, c.loop-p.invariant.5), few)
 
 pub overflow_cast-nodes : goal.overflow_cast-nodes
 overflow_cast-nodes c =
     let ties = c.args.ties.now in
     let h = c.loop-p-test.true in
     let few : c.loop-p.p < 256 = omega (arith, h, c.requires.0) in
-    let low = low-entered ties c.loop-p.p c.wide16-name.result c.wide16-name.ensures.0 few c.wide16-name.ensures.1 (omega (arith, c.loop-p.invariant.4)) c.loop-p.invariant.2 c.first_of-block.ensures in
-    let room : c.first_of-block.result * 16 + c.wide16-name.result / 4096 < length c.loop-p.blocks = omega (arith, low.1.low, h, c.wide16-name.ensures.1, c.requires.3, c.loop-p.invariant.5) in
-    let named = name-entered ties c.loop-p.p c.wide16-name.result c.wide16-name.ensures.0 few c.wide16-name.ensures.1 low.1 room c.loop-p.invariant.3 c.first_of-node.ensures in
+    let low = low-entered ties c.loop-p.p c.from-name.result c.from-name.ensures few c.from-name.ensures.1 (omega (arith, c.loop-p.invariant.4)) c.loop-p.invariant.2 c.first_of-block.ensures in
+    let room : c.first_of-block.result * 16 + c.from-name.result / 4096 < length c.loop-p.blocks = omega (arith, low.1.low, h, c.from-name.ensures.1, c.requires.3, c.loop-p.invariant.5) in
+    let named = name-entered ties c.loop-p.p c.from-name.result c.from-name.ensures few c.from-name.ensures.1 low.1 room c.loop-p.invariant.3 c.first_of-node.ensures in
     omega (arith, named.1.low, few)
 
 pub bounds-nodes-p : goal.bounds-nodes-p
@@ -58,9 +58,9 @@ loop-p-preserved c =
     let ties = c.args.ties.now in
     let h = c.loop-p-test.true in
     let few : c.loop-p.p < 256 = omega (arith, h, c.requires.0) in
-    let low = low-entered ties c.loop-p.p c.wide16-name.result c.wide16-name.ensures.0 few c.wide16-name.ensures.1 (omega (arith, c.loop-p.invariant.4)) c.loop-p.invariant.2 c.first_of-block.ensures in
-    let room : c.first_of-block.result * 16 + c.wide16-name.result / 4096 < length c.loop-p.blocks = omega (arith, low.1.low, h, c.wide16-name.ensures.1, c.requires.3, c.loop-p.invariant.5) in
-    let named = name-entered ties c.loop-p.p c.wide16-name.result c.wide16-name.ensures.0 few c.wide16-name.ensures.1 low.1 room c.loop-p.invariant.3 c.first_of-node.ensures in (
+    let low = low-entered ties c.loop-p.p c.from-name.result c.from-name.ensures few c.from-name.ensures.1 (omega (arith, c.loop-p.invariant.4)) c.loop-p.invariant.2 c.first_of-block.ensures in
+    let room : c.first_of-block.result * 16 + c.from-name.result / 4096 < length c.loop-p.blocks = omega (arith, low.1.low, h, c.from-name.ensures.1, c.requires.3, c.loop-p.invariant.5) in
+    let named = name-entered ties c.loop-p.p c.from-name.result c.from-name.ensures few c.from-name.ensures.1 low.1 room c.loop-p.invariant.3 c.first_of-node.ensures in (
       omega arith,
       fill_more (λ q. q) (λ q v. First (name_in ties) q v) c.loop-p.nodes c.loop-p.p c.first_of-node.result (omega (arith, c.loop-p.invariant.6, few)) (λ q k r. omega arith) c.loop-p.invariant.1 named.1,
       low.0,

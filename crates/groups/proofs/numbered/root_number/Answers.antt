@@ -4,4 +4,4 @@ use Rattle.groups.proofs.numbered.root_number.Goals as goal
 
 pub returns : goal.returns
 unfolding number_at
-returns c = rw c.wide16.ensures.0 at c.at16.ensures
+returns c = rw c.from.ensures at c.at.ensures

@@ -18,7 +18,7 @@ loop-i-preserved c =
     let few : loop.i - 1 < args.n = omega (arith, h, loop.invariant.0) in
     let wrote-more = write-more args.counts.now args.roots.now args.n (loop.i - 1) few (c.requires.2 (loop.i - 1) few) loop.counts c.root_number-number.result
     (loop.invariant.1 ∙ ap (λ (x : ℕ). wrote args.counts.now args.roots.now args.n x) up) c.root_number-number.ensures in
-    (omega (arith, loop.invariant.0), c.put16.ensures ∙ wrote-more, ap length c.put16.ensures ∙ length-set loop.counts _ _ ∙ loop.invariant.2)
+    (omega (arith, loop.invariant.0), c.put.ensures ∙ wrote-more, ap length c.put.ensures ∙ length-set loop.counts _ _ ∙ loop.invariant.2)
 
 pub shape_of-counts : goal.shape_of-counts
 shape_of-counts c = c.loop-i.invariant.2

@@ -4,7 +4,7 @@ use Rattle.groups.proofs.Rooting.{root-here, root-next}
 use Rattle.groups.proofs.uniting.root.Goals as goal
 
 pub loop-up-init : goal.loop-up-init
-loop-up-init c = (omega arith, c.wide16-up.ensures.0, λ r s. s)
+loop-up-init c = (omega arith, c.from-up.ensures, λ r s. s)
 
 pub bounds-ups-at-in-loop-up : goal.bounds-ups-at-in-loop-up
 bounds-ups-at-in-loop-up c = omega (arith, c.loop-up.invariant.0, c.loop-up-test.true, c.requires)
@@ -12,7 +12,7 @@ bounds-ups-at-in-loop-up c = omega (arith, c.loop-up.invariant.0, c.loop-up-test
 pub loop-up-preserved : goal.loop-up-preserved
 loop-up-preserved c =
     let loop = c.loop-up in
-    (omega (arith, loop.invariant.0, c.loop-up-test.true), c.wide16-up-in-loop-up.ensures.0, λ r s. loop.invariant.2 r (root-next _ _ _ _ loop.invariant.1 c.loop-up-test.true s))
+    (omega (arith, loop.invariant.0, c.loop-up-test.true), c.from-up-in-loop-up.ensures, λ r s. loop.invariant.2 r (root-next _ _ _ _ loop.invariant.1 c.loop-up-test.true s))
 
 pub returns : goal.returns
 returns c = c.loop-up.invariant.2 c.loop-up.at (root-here _ _ _ c.loop-up.invariant.1 c.loop-up-test.false)

@@ -19,43 +19,43 @@ module _ (c : After-name_of-own) where
   own_is : c.name_of-own.result ≡ (quick_class c.args.kept.now (class_row_at c.args.classes.now c.args.class)).name
   own_is =
       c.name_of-own.ensures
-      ∙ (ap (name_in c.args.counts.now c.args.classes.now c.args.kept.now) c.from16.ensures.0
+      ∙ (ap (name_in c.args.counts.now c.args.classes.now c.args.kept.now) c.from.ensures
       ∙ name-is c.args.counts.now c.args.classes.now c.args.kept.now c.args.class c.requires)
 
   class-known : get_elem? (quick_base c.args.counts.now c.args.classes.now c.args.kept.now c.args.cache.now).classes c.args.class
       ≡ some (quick_class c.args.kept.now (class_row_at c.args.classes.now c.args.class))
   class-known = class-there c.args.counts.now c.args.classes.now c.args.kept.now c.args.cache.now c.args.class c.requires
 
-pub returns-then-from16-name : goal.returns-then-from16-name
+pub returns-then-from-name : goal.returns-then-from-name
 unfolding Recorded number
-returns-then-from16-name c = λ ts ss hl hn.
-    let m = (goal.at.returns-then-from16-name c).After-name_of-own in
-    (misnamed _ _ _ _ hl hn _ (class-known m) (λ q. c.if-from16-name.true (c.from16-2.ensures.0 ∙ (own_is m ∙ q))), λ z. omega arith)
+returns-then-from-name c = λ ts ss hl hn.
+    let m = (goal.at.returns-then-from-name c).After-name_of-own in
+    (misnamed _ _ _ _ hl hn _ (class-known m) (λ q. c.if-from-name.true (c.from-2.ensures ∙ (own_is m ∙ q))), λ z. omega arith)
 
-pub returns-then-d-from16 : goal.returns-then-d-from16
+pub returns-then-d-from : goal.returns-then-d-from
 unfolding Recorded quick_base
-returns-then-d-from16 c = λ ts ss hl hn.
-    let m = (goal.at.returns-then-d-from16 c).After-name_of-own in
-    there _ _ _ _ hl hn _ (class-known m) _ (sym (own_is m)) (sym c.from16-2.ensures.0 ∙ c.if-from16-name.false) _
-    (rw c.from8.ensures.0 at (found_at _ _ (sym c.find-found.ensures ∙ c.in-At.is))) (c.if-d-from16.true ∙ c.from16-in-At.ensures.0)
+returns-then-d-from c = λ ts ss hl hn.
+    let m = (goal.at.returns-then-d-from c).After-name_of-own in
+    there _ _ _ _ hl hn _ (class-known m) _ (sym (own_is m)) (sym c.from-2.ensures ∙ c.if-from-name.false) _
+    (rw c.from.ensures at (found_at _ _ (sym c.find-found.ensures ∙ c.in-At.is))) (c.if-d-from.true ∙ c.from-in-At.ensures)
 
 pub returns-in-At : goal.returns-in-At
 unfolding Recorded quick_base number
 returns-in-At c = λ ts ss hl hn.
     let m = (goal.at.returns-in-At c).After-name_of-own in (
-      taken _ _ _ _ hl hn _ (class-known m) _ (sym (own_is m)) (sym c.from16-2.ensures.0 ∙ c.if-from16-name.false) _
-          (rw c.from8.ensures.0 at (found_at _ _ (sym c.find-found.ensures ∙ c.in-At.is))) (λ q. c.if-d-from16.false (q ∙ sym c.from16-in-At.ensures.0)),
+      taken _ _ _ _ hl hn _ (class-known m) _ (sym (own_is m)) (sym c.from-2.ensures ∙ c.if-from-name.false) _
+          (rw c.from.ensures at (found_at _ _ (sym c.find-found.ensures ∙ c.in-At.is))) (λ q. c.if-d-from.false (q ∙ sym c.from-in-At.ensures)),
       λ z. omega arith,
     )
 
-pub returns-then-at16-ge-CACHE_LIMIT : goal.returns-then-at16-ge-CACHE_LIMIT
+pub returns-then-at-ge-CACHE_LIMIT : goal.returns-then-at-ge-CACHE_LIMIT
 unfolding Recorded quick_base number
-returns-then-at16-ge-CACHE_LIMIT c = λ ts ss hl hn.
-    let m = (goal.at.returns-then-at16-ge-CACHE_LIMIT c).After-name_of-own in
+returns-then-at-ge-CACHE_LIMIT c = λ ts ss hl hn.
+    let m = (goal.at.returns-then-at-ge-CACHE_LIMIT c).After-name_of-own in
     let counts = c.args.counts.now in
     let n : length (rows (entry_at c.args.cache.now) (get_or counts 2 0) 0) ≡ get_or counts 2 0 = rows-length _ _ _ in (
-      full _ _ _ _ hl hn _ (class-known m) _ (sym (own_is m)) (sym c.from16-2.ensures.0 ∙ c.if-from16-name.false)
-          (rw c.from8.ensures.0 at (found-absent _ (sym c.find-found.ensures ∙ c.in_default.is))) (omega (arith, c.at16.ensures, c.if-at16-ge-CACHE_LIMIT.true)),
+      full _ _ _ _ hl hn _ (class-known m) _ (sym (own_is m)) (sym c.from-2.ensures ∙ c.if-from-name.false)
+          (rw c.from.ensures at (found-absent _ (sym c.find-found.ensures ∙ c.in_default.is))) (omega (arith, c.at.ensures, c.if-at-ge-CACHE_LIMIT.true)),
       λ z. omega arith,
     )
 
@@ -65,16 +65,16 @@ returns c = λ ts ss hl hn.
     let m = (goal.at.returns c).After-name_of-own in
     let counts = c.args.counts.now in
     let n : length (rows (entry_at c.args.cache.now) (get_or counts 2 0) 0) ≡ get_or counts 2 0 = rows-length _ _ _ in
-    let own = sym c.from16-2.ensures.0 ∙ c.if-from16-name.false in (
+    let own = sym c.from-2.ensures ∙ c.if-from-name.false in (
       judged _ _ _ _ hl hn _ (class-known m) _ (sym (own_is m)) own
-          (rw c.from8.ensures.0 at (found-absent _ (sym c.find-found.ensures ∙ c.in_default.is))) (omega (arith, c.at16.ensures, c.if-at16-ge-CACHE_LIMIT.false)),
+          (rw c.from.ensures at (found-absent _ (sym c.find-found.ensures ∙ c.in_default.is))) (omega (arith, c.at.ensures, c.if-at-ge-CACHE_LIMIT.false)),
       record {
         loader = refl;
         name = own;
         class = refl;
         above = refl;
-        tied = c.at16-2.ensures;
-        noted = c.at16-3.ensures;
-        room = omega (arith, c.at16.ensures, c.if-at16-ge-CACHE_LIMIT.false);
+        tied = c.at-2.ensures;
+        noted = c.at-3.ensures;
+        room = omega (arith, c.at.ensures, c.if-at-ge-CACHE_LIMIT.false);
       },
     )

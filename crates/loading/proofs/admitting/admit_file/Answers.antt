@@ -34,7 +34,7 @@ module _ (c : After-verify_class-verified) where
 
   posted : verification c.verify_class-verified.result.accepts (noted c.verify_class-verified.new.subtypes c.verify_class-verified.result.count)
       ≡ posting c.args.loader (class_trace c.args.file.now) (noted c.args.subtypes.now (get_or c.args.counts.now 4 0))
-  posted = c.verify_class-verified.ensures ∙ (λ i. posting c.args.loader (class_trace c.args.file.now) (noted (same i) (c.at16-count.ensures i)))
+  posted = c.verify_class-verified.ensures ∙ (λ i. posting c.args.loader (class_trace c.args.file.now) (noted (same i) (c.at-count.ensures i)))
 
   unmapped-not : any (unmapped_in (file_version c.args.file.now)) (quick_methods c.args.file.now) ≡ false
   unmapped-not = sym c.is_class_unmapped.ensures ∙ c.if-is_class_unmapped.false

@@ -12,7 +12,7 @@ use Rattle.loading.proofs.Remembered.{grown-remembered, numbers-same}
 use Rattle.loading.proofs.carrying.enter.Goals as goal
 
 pub overflow_add-row : goal.overflow_add-row
-overflow_add-row c = omega (arith, c.at16-row.ensures, c.requires.0)
+overflow_add-row c = omega (arith, c.at-row.ensures, c.requires.0)
 
 pub write_counts-requires : goal.write_counts-requires
 write_counts-requires c = rw c.remember.ensures (grown-remembered _ _ _ c.requires.1)
@@ -23,10 +23,10 @@ returns c =
     let args = c.args in
     let n = args.n in
     let counts = args.counts.now in
-    let row = c.at16-row.ensures in
+    let row = c.at-row.ensures in
     record {
       counted = c.write_counts.ensures
           ∙ ((λ i. numbers_on (c.remember.ensures i) n.tied n.noted (write_rows set (args.classes ∷ args.kept ∷ (row i + 1) ∷ n.tied ∷ n.noted ∷ []) 0 (c.remember.ensures i)))
           ∙ numbers-same counts n.tied n.noted _);
-      written = c.put_three.ensures ∙ (λ i. put_three args.cache.now (row i) (c.from8.ensures.0 i) n.name n.class);
+      written = c.put_three.ensures ∙ (λ i. put_three args.cache.now (row i) (c.from.ensures i) n.name n.class);
     }

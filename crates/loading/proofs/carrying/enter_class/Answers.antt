@@ -23,8 +23,8 @@ enter-requires c = c.requires
 
 pub returns-then-n-tied : goal.returns-then-n-tied
 returns-then-n-tied c =
-    record { counted = grouped-not _ _ _ _ _ _ c.at16-tied.ensures c.if-n-tied.true c.enter.ensures.counted; written = c.enter.ensures.written }
+    record { counted = grouped-not _ _ _ _ _ _ c.at-tied.ensures c.if-n-tied.true c.enter.ensures.counted; written = c.enter.ensures.written }
 
 pub returns : goal.returns
 returns c =
-    record { counted = c.write_groups.ensures ∙ grouped-anew _ _ _ _ _ _ c.at16-tied.ensures c.if-n-tied.false c.enter.ensures.counted; written = c.enter.ensures.written }
+    record { counted = c.write_groups.ensures ∙ grouped-anew _ _ _ _ _ _ c.at-tied.ensures c.if-n-tied.false c.enter.ensures.counted; written = c.enter.ensures.written }

@@ -12,9 +12,9 @@ overflow_cast-file c = omega (arith, c.requires)
 pub returns : goal.returns
 returns c =
     let args = c.args in
-    let start = c.at16-start.ensures in
+    let start = c.at-start.ensures in
     record {
-      row = c.put_three.ensures ∙ (λ i. put_three args.classes.now (c.at16.ensures i) (c.from8.ensures.0 i) (start i) (length args.file.now));
+      row = c.put_three.ensures ∙ (λ i. put_three args.classes.now (c.at.ensures i) (c.from.ensures i) (start i) (length args.file.now));
       bytes = c.write_bytes.ensures ∙ (λ i. write_rows set args.file.now (start i) args.kept.now);
       tied = c.write_cells.ensures;
       noted = c.write_cells-2.ensures;

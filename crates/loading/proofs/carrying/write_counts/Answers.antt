@@ -9,10 +9,10 @@ pub returns : goal.returns
 unfolding numbers_on
 returns c =
     let g = c.requires in
-    let p = c.at16-ties.ensures in
-    let q = c.at16-subtypes.ensures in
-    let r = c.at16-tied.ensures in
-    let s = c.at16-noted.ensures in
+    let p = c.at-ties.ensures in
+    let q = c.at-subtypes.ensures in
+    let r = c.at-tied.ensures in
+    let s = c.at-noted.ensures in
     let a = c.number_rows.ensures ∙ numbered-few _ _ _ _ _ (omega (arith, p, q, s, g.ties, g.ties_few, g.subtypes, g.subtypes_few)) in
     let b = c.number_rows-2.ensures ∙ numbered-few _ _ _ _ _ (omega (arith, p, r, s, g.ties, g.ties_few, g.subtypes, g.subtypes_few)) in
     rw (b, a, c.write_cells.ensures, p, q, r, s)

@@ -16,13 +16,13 @@ use Rattle.loading.proofs.constraining.admit_constraints.Goals.{After-post_metho
 module _ (c : After-post_methods-tied) where
   made : TiesMade c.args.counts.now c.args.classes.now c.args.kept.now c.args.cache.now c.args.ties.now c.args.subtypes.now
       c.requires.0 c.args.loader c.args.p c.args.file.now c.post_methods-tied.new.ties c.post_methods-tied.result
-  made = ties-made _ _ _ _ _ _ c.requires.0 _ _ _ _ _ _ _ _ c.requires.3 c.write_cells.ensures c.at16.ensures c.post_methods-tied.ensures
+  made = ties-made _ _ _ _ _ _ c.requires.0 _ _ _ _ _ _ _ _ c.requires.3 c.write_cells.ensures c.at.ensures c.post_methods-tied.ensures
 
 pub post_methods-tied-requires : goal.post_methods-tied-requires
 post_methods-tied-requires c =
     let pre = c.requires in
     let long : length c.write_cells.new.t ≡ 888 = ap length c.write_cells.ensures ∙ (write_rows-length set length-set _ _ _ ∙ pre.3) in
-    (pre.2, omega (arith, c.at16.ensures, pre.0.ties_few), long, pre.0.base.loaders)
+    (pre.2, omega (arith, c.at.ensures, pre.0.ties_few), long, pre.0.base.loaders)
 
 pub returns-then-noted-gt-SUBTYPE_LIMIT : goal.returns-then-noted-gt-SUBTYPE_LIMIT
 unfolding Decided number
@@ -49,4 +49,4 @@ unfolding Decided quick_file
 returns c =
     let post = (goal.at.returns c).After-post_methods-tied in
     λ ns q. posted-new _ _ _ _ _ _ c.requires.0 c.args.loader c.args.p c.args.file.now _ _ (made post) (sym c.has_room.ensures ∙ c.if-not-has_room.false)
-    _ _ c.if-noted-gt-SUBTYPE_LIMIT.false ns q c.requires.4 _ refl c.class_name.ensures c.at16-2.ensures (add-one c.args.p) refl refl
+    _ _ c.if-noted-gt-SUBTYPE_LIMIT.false ns q c.requires.4 _ refl c.class_name.ensures c.at-2.ensures (add-one c.args.p) refl refl

@@ -7,29 +7,29 @@ use Rattle.loading.specs.Stages.{room_for}
 use Rattle.classfile.specs.Lists.{every-last}
 use Rattle.loading.proofs.constraining.has_room.Goals as goal
 
-pub overflow_add-wide16 : goal.overflow_add-wide16
-overflow_add-wide16 c = omega (arith, c.requires, c.wide16.ensures.1)
+pub overflow_add-from : goal.overflow_add-from
+overflow_add-from c = omega (arith, c.requires, c.from.ensures.1)
 
-pub returns-then-wide16-file-gt-KEPT_LENGTH : goal.returns-then-wide16-file-gt-KEPT_LENGTH
+pub returns-then-from-file-gt-KEPT_LENGTH : goal.returns-then-from-file-gt-KEPT_LENGTH
 unfolding room_for every
-returns-then-wide16-file-gt-KEPT_LENGTH c = rw (← c.at16.ensures, ← c.wide16.ensures.0, lt-leb _ _ c.if-wide16-file-gt-KEPT_LENGTH.true, every)
+returns-then-from-file-gt-KEPT_LENGTH c = rw (← c.at.ensures, ← c.from.ensures, lt-leb _ _ c.if-from-file-gt-KEPT_LENGTH.true, every)
 
-pub returns-then-at16-ge-CLASS_LIMIT : goal.returns-then-at16-ge-CLASS_LIMIT
+pub returns-then-at-ge-CLASS_LIMIT : goal.returns-then-at-ge-CLASS_LIMIT
 unfolding room_for every
-returns-then-at16-ge-CLASS_LIMIT c = rw (← c.at16.ensures, ← c.wide16.ensures.0, le-leb _ _ c.if-wide16-file-gt-KEPT_LENGTH.false, ← c.at16-2.ensures, le-ltb _ _ c.if-at16-ge-CLASS_LIMIT.true, every)
+returns-then-at-ge-CLASS_LIMIT c = rw (← c.at.ensures, ← c.from.ensures, le-leb _ _ c.if-from-file-gt-KEPT_LENGTH.false, ← c.at-2.ensures, le-ltb _ _ c.if-at-ge-CLASS_LIMIT.true, every)
 
-pub returns-then-at16-ge-CACHE_LIMIT : goal.returns-then-at16-ge-CACHE_LIMIT
+pub returns-then-at-ge-CACHE_LIMIT : goal.returns-then-at-ge-CACHE_LIMIT
 unfolding room_for every
-returns-then-at16-ge-CACHE_LIMIT c = rw (← c.at16.ensures, ← c.wide16.ensures.0, le-leb _ _ c.if-wide16-file-gt-KEPT_LENGTH.false, ← c.at16-2.ensures, lt-ltb _ _ c.if-at16-ge-CLASS_LIMIT.false, ← c.at16-3.ensures, le-ltb _ _ c.if-at16-ge-CACHE_LIMIT.true, every)
+returns-then-at-ge-CACHE_LIMIT c = rw (← c.at.ensures, ← c.from.ensures, le-leb _ _ c.if-from-file-gt-KEPT_LENGTH.false, ← c.at-2.ensures, lt-ltb _ _ c.if-at-ge-CLASS_LIMIT.false, ← c.at-3.ensures, le-ltb _ _ c.if-at-ge-CACHE_LIMIT.true, every)
 
 pub returns-then-tied-gt-TIE_LIMIT : goal.returns-then-tied-gt-TIE_LIMIT
 unfolding room_for every
-returns-then-tied-gt-TIE_LIMIT c = rw (← c.at16.ensures, ← c.wide16.ensures.0, le-leb _ _ c.if-wide16-file-gt-KEPT_LENGTH.false, ← c.at16-2.ensures, lt-ltb _ _ c.if-at16-ge-CLASS_LIMIT.false, ← c.at16-3.ensures, lt-ltb _ _ c.if-at16-ge-CACHE_LIMIT.false, lt-leb _ _ c.if-tied-gt-TIE_LIMIT.true, every)
+returns-then-tied-gt-TIE_LIMIT c = rw (← c.at.ensures, ← c.from.ensures, le-leb _ _ c.if-from-file-gt-KEPT_LENGTH.false, ← c.at-2.ensures, lt-ltb _ _ c.if-at-ge-CLASS_LIMIT.false, ← c.at-3.ensures, lt-ltb _ _ c.if-at-ge-CACHE_LIMIT.false, lt-leb _ _ c.if-tied-gt-TIE_LIMIT.true, every)
 
 pub overflow_add-result : goal.overflow_add-result
-overflow_add-result c = omega (arith, c.size_of.ensures.1, c.from16-own.ensures.1)
+overflow_add-result c = omega (arith, c.size_of.ensures.1, c.from-own.ensures.1)
 
 pub returns : goal.returns
 unfolding room_for every
 returns c =
-    rw (← c.at16.ensures, ← c.wide16.ensures.0, le-leb _ _ c.if-wide16-file-gt-KEPT_LENGTH.false, ← c.at16-2.ensures, lt-ltb _ _ c.if-at16-ge-CLASS_LIMIT.false, ← c.at16-3.ensures, lt-ltb _ _ c.if-at16-ge-CACHE_LIMIT.false, le-leb _ _ c.if-tied-gt-TIE_LIMIT.false, every, ← c.size_of.ensures.0, ← c.field_count.ensures, ← c.from8.ensures.0, ← c.from16-own.ensures.0) (sym (every-last _))
+    rw (← c.at.ensures, ← c.from.ensures, le-leb _ _ c.if-from-file-gt-KEPT_LENGTH.false, ← c.at-2.ensures, lt-ltb _ _ c.if-at-ge-CLASS_LIMIT.false, ← c.at-3.ensures, lt-ltb _ _ c.if-at-ge-CACHE_LIMIT.false, le-leb _ _ c.if-tied-gt-TIE_LIMIT.false, every, ← c.size_of.ensures.0, ← c.field_count.ensures, ← c.from.ensures, ← c.from-own.ensures) (sym (every-last _))

@@ -14,4 +14,4 @@ returns-in-Keep c = λ h. rw c.in-Keep.is tt
 
 pub returns-in-Add : goal.returns-in-Add
 unfolding PostsNone
-returns-in-Add c = λ h. rw c.in-Add.is (eqb-true _ _ h ∙ c.at16.ensures)
+returns-in-Add c = λ h. rw c.in-Add.is (eqb-true _ _ h ∙ c.at.ensures)

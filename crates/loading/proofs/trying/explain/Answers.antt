@@ -34,5 +34,5 @@ returns c = λ g k a b o f h.
     let list = c.args.list.now in
     c.reason-count.ensures (Denied (Word 9))
     ∙ (ap (λ (x : Option (List ℕ)). listed (Denied (Word 9)) x list)
-    (new-reason _ _ _ _ _ c.requires _ _ _ _ _ _ refl refl c.judge.ensures.tried _ _ _ c.at16-entries.ensures _ c.write_counts.ensures (file_of k) h.fits refl h.turn _ _)
+    (new-reason _ _ _ _ _ c.requires _ _ _ _ _ _ refl refl c.judge.ensures.tried _ _ _ c.at-entries.ensures _ c.write_counts.ensures (file_of k) h.fits refl h.turn _ _)
     ∙ tries-clash k list _ _ _ _ h (sym (c.judge.ensures.judged (enough _ refl) refl refl g (file_of k) h.fits) ∙ c.if-judge.false))

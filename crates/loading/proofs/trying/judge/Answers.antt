@@ -12,5 +12,5 @@ returns c =
     record {
       tried = tried;
       judged = λ nl bl sl g bs f. c.agreed.ensures ∙ (new-names args.counts.now args.classes.now args.kept.now args.cache.now bs args.n f _ _ _ _ _ _ nl bl sl tried
-          args.ties.now args.beside.now args.subtypes.now _ _ _ c.at16.ensures c.at16-2.ensures g c.check.ensures).exactly;
+          args.ties.now args.beside.now args.subtypes.now _ _ _ c.at.ensures c.at-2.ensures g c.check.ensures).exactly;
     }

@@ -4,4 +4,4 @@ use Rattle.resolution.proofs.cache.entry_class.Goals as goal
 
 pub returns : goal.returns
 unfolding entry_at
-returns c = rw (c.from16.ensures.0, c.at16.ensures, c.wide16.ensures.0)
+returns c = rw (c.from.ensures, c.at.ensures, c.from.ensures)

@@ -5,7 +5,7 @@ use Rattle.resolution.specs.Cached.{row_here, row-later, row-nowhere, row-start}
 use Rattle.resolution.proofs.cache.row_of.Goals as goal
 
 pub loop-i-init : goal.loop-i-init
-loop-i-init c = (omega arith, rw c.at16-n.ensures (row-start _ _ _))
+loop-i-init c = (omega arith, rw c.at-n.ensures (row-start _ _ _))
 
 pub returns-then-is_entry : goal.returns-then-is_entry
 returns-then-is_entry c = row_here _ _ _ _ _ c.loop-i.invariant.1 c.loop-i-test.true (sym c.is_entry.ensures ∙ c.if-is_entry.true)

@@ -9,7 +9,7 @@ loop-i-init c = (refl, refl)
 
 pub loop-i-preserved : goal.loop-i-preserved
 loop-i-preserved c =
-    (rw (c.put8.ensures, c.wide8.ensures.0, c.super_cell.ensures) (sym (write-next _ _ _ c.loop-i-test.true) ∙ c.loop-i.invariant.0), ap length c.put8.ensures ∙ simp length-set c.loop-i.invariant.1)
+    (rw (c.put.ensures, c.from.ensures, c.super_cell.ensures) (sym (write-next _ _ _ c.loop-i-test.true) ∙ c.loop-i.invariant.0), ap length c.put.ensures ∙ simp length-set c.loop-i.invariant.1)
 
 pub returns : goal.returns
 returns c = sym (write-end _ _ _ _ c.loop-i-test.false) ∙ c.loop-i.invariant.0

@@ -2,4 +2,4 @@
 use Rattle.resolution.proofs.classes.is_class.Goals as goal
 
 pub returns : goal.returns
-returns c = rw (c.from16.ensures.0, c.at16.ensures)
+returns c = rw (c.from.ensures, c.at.ensures)

@@ -2,4 +2,4 @@
 use Rattle.resolution.proofs.classes.row_cell.Goals as goal
 
 pub returns : goal.returns
-returns c = rw (c.at16.ensures, c.wide32.ensures.0, c.wide8.ensures.0)
+returns c = rw (c.at.ensures, c.wide32.ensures.0, c.from.ensures)

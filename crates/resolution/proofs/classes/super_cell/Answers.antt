@@ -10,16 +10,16 @@ use Rattle.resolution.specs.Quick.{found-absent, found_at, super-past}
 use Rattle.resolution.proofs.classes.super_cell.Goals as goal
 
 pub returns-then-not-is_class : goal.returns-then-not-is_class
-returns-then-not-is_class c = sym (cell-none _ _ (ap (super_of _) (sym (c.from16-n.ensures.0 ∙ c.from8.ensures.0)) ∙ super-past _ _ _ _ _ (ltb-false _ _ (sym c.is_class.ensures ∙ c.if-not-is_class.true))))
+returns-then-not-is_class c = sym (cell-none _ _ (ap (super_of _) (sym (c.from-n.ensures ∙ c.from.ensures)) ∙ super-past _ _ _ _ _ (ltb-false _ _ (sym c.is_class.ensures ∙ c.if-not-is_class.true))))
 
 pub returns-in_default : goal.returns-in_default
-returns-in_default c = sym (cell-none _ _ (ap (super_of _) (sym (c.from16-n.ensures.0 ∙ c.from8.ensures.0)) ∙ (found-absent _ (sym c.super_of.ensures ∙ c.in_default.is))))
+returns-in_default c = sym (cell-none _ _ (ap (super_of _) (sym (c.from-n.ensures ∙ c.from.ensures)) ∙ (found-absent _ (sym c.super_of.ensures ∙ c.in_default.is))))
 
 pub overflow_add-result : goal.overflow_add-result
-overflow_add-result c = let l : c.in-At.p < c.from16-n.result = super-falls _ _ _ (found_at _ _ (sym c.super_of.ensures ∙ c.in-At.is)) in omega (arith, l, c.from16-n.ensures.0, c.from8.ensures.1)
+overflow_add-result c = let l : c.in-At.p < c.from-n.result = super-falls _ _ _ (found_at _ _ (sym c.super_of.ensures ∙ c.in-At.is)) in omega (arith, l, c.from-n.ensures, c.from.ensures.1)
 
 pub overflow_cast-result : goal.overflow_cast-result
-overflow_cast-result c = let l : c.in-At.p < c.from16-n.result = super-falls _ _ _ (found_at _ _ (sym c.super_of.ensures ∙ c.in-At.is)) in omega (arith, l, c.from16-n.ensures.0, c.from8.ensures.1)
+overflow_cast-result c = let l : c.in-At.p < c.from-n.result = super-falls _ _ _ (found_at _ _ (sym c.super_of.ensures ∙ c.in-At.is)) in omega (arith, l, c.from-n.ensures, c.from.ensures.1)
 
 pub returns : goal.returns
-returns c = sym (cell-some _ _ _ (ap (super_of _) (sym (c.from16-n.ensures.0 ∙ c.from8.ensures.0)) ∙ (found_at _ _ (sym c.super_of.ensures ∙ c.in-At.is))))
+returns c = sym (cell-some _ _ _ (ap (super_of _) (sym (c.from-n.ensures ∙ c.from.ensures)) ∙ (found_at _ _ (sym c.super_of.ensures ∙ c.in-At.is))))

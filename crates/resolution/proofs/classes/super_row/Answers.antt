@@ -10,7 +10,7 @@ use Rattle.resolution.specs.Quick.{row-past, row-there}
 use Rattle.resolution.proofs.classes.super_row.Goals as goal
 
 pub returns-then-not-is_class : goal.returns-then-not-is_class
-returns-then-not-is_class c = c.at16.ensures ∙ sym (row-past _ _ _ _ _ (ltb-false _ _ (sym c.is_class.ensures ∙ c.if-not-is_class.true)))
+returns-then-not-is_class c = c.at.ensures ∙ sym (row-past _ _ _ _ _ (ltb-false _ _ (sym c.is_class.ensures ∙ c.if-not-is_class.true)))
 
 pub returns : goal.returns
 unfolding class_row_at

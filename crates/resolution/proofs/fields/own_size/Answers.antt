@@ -5,4 +5,4 @@ use Rattle.classfile.specs.Reading.{field_count}
 use Rattle.resolution.proofs.fields.own_size.Goals as goal
 
 pub returns : goal.returns
-returns c = (c.from16.ensures.0 ∙ (c.from8.ensures.0 ∙ (c.field_count.ensures ∙ ap field_count c.file_of.ensures)), omega (arith, c.from16.ensures.0, c.from8.ensures.1))
+returns c = (c.from.ensures ∙ (c.from.ensures ∙ (c.field_count.ensures ∙ ap field_count c.file_of.ensures)), omega (arith, c.from.ensures, c.from.ensures.1))

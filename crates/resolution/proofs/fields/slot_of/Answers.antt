@@ -19,4 +19,4 @@ returns-in_default c =
 pub returns : goal.returns
 unfolding found shift
 returns c =
-    ap At (ap (λ (n : ℕ). c.inherited.result + n) (c.from16.ensures.0 ∙ c.from8.ensures.0) ∙ ap (λ (n : ℕ). n + c.in-At.i) c.inherited.ensures.0) ∙ ap found (sym (slot-place _ _ _ _ _ _ _ ∙ ap (shift (inherited_in _ c.args.d)) (field_at _ _ (ap (λ (bs : List ℕ). field_found (index_of (field_is c.args.name c.args.type_name) (quick_fields bs))) (sym c.file_of.ensures) ∙ (sym c.find_field.ensures ∙ c.in-At.is)))))
+    ap At (ap (λ (n : ℕ). c.inherited.result + n) (c.from.ensures ∙ c.from.ensures) ∙ ap (λ (n : ℕ). n + c.in-At.i) c.inherited.ensures.0) ∙ ap found (sym (slot-place _ _ _ _ _ _ _ ∙ ap (shift (inherited_in _ c.args.d)) (field_at _ _ (ap (λ (bs : List ℕ). field_found (index_of (field_is c.args.name c.args.type_name) (quick_fields bs))) (sym c.file_of.ensures) ∙ (sym c.find_field.ensures ∙ c.in-At.is)))))

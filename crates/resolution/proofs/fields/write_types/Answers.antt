@@ -13,7 +13,7 @@ loop-i-init c = (rw (c.field_count-i.ensures, rows-map field_type (field_in c.ar
 
 pub loop-i-preserved : goal.loop-i-preserved
 loop-i-preserved c =
-    (rw (c.put16.ensures, c.wide32.ensures.0, c.wide8.ensures.0, c.field_type.ensures) (sym (write-last _ _ _ _ c.loop-i-test.true) ∙ c.loop-i.invariant.0), ap length c.put16.ensures ∙ simp length-set c.loop-i.invariant.1)
+    (rw (c.put.ensures, c.wide32.ensures.0, c.from.ensures, c.field_type.ensures) (sym (write-last _ _ _ _ c.loop-i-test.true) ∙ c.loop-i.invariant.0), ap length c.put.ensures ∙ simp length-set c.loop-i.invariant.1)
 
 pub returns : goal.returns
 returns c = sym (write-end _ _ _ _ c.loop-i-test.false) ∙ c.loop-i.invariant.0

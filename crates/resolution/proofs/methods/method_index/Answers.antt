@@ -18,4 +18,4 @@ returns-in_default c =
 pub returns : goal.returns
 unfolding found
 returns c =
-    ap At (c.from16.ensures.0 ∙ c.from8.ensures.0) ∙ ap found (sym (method-at _ _ _ _ (ap (λ (bs : List ℕ). method_found bs (index_of (alike c.args.s) (quick_methods bs))) (sym c.file_of.ensures) ∙ (sym c.find_method.ensures ∙ c.in-At.is))).0)
+    ap At (c.from.ensures ∙ c.from.ensures) ∙ ap found (sym (method-at _ _ _ _ (ap (λ (bs : List ℕ). method_found bs (index_of (alike c.args.s) (quick_methods bs))) (sym c.file_of.ensures) ∙ (sym c.find_method.ensures ∙ c.in-At.is))).0)

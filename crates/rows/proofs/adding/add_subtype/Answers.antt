@@ -5,15 +5,15 @@ use Rattle.rows.proofs.adding.add_subtype.Goals as goal
 
 pub returns-then-subtype_known : goal.returns-then-subtype_known
 returns-then-subtype_known c =
-    let all = let from16 = c.from16-rows in
-    subtype-there _ _ _ _ _ _ (sym c.subtype_known.ensures ∙ c.if-subtype_known.true) from16.ensures.0 in record { value = all.0; subtypes_after = all.1 }
+    let all = let from = c.from-rows in
+    subtype-there _ _ _ _ _ _ (sym c.subtype_known.ensures ∙ c.if-subtype_known.true) from.ensures in record { value = all.0; subtypes_after = all.1 }
 
 pub returns : goal.returns
 returns c =
     let all = let put_three = c.put_three in
-    let from8 = c.from8 in
+    let from = c.from in
     let if1 = c.if-subtype_known in
     let subtype-known = c.subtype_known in
-    let from16 = c.from16-rows in
-    subtype-new _ _ _ _ _ _ _ (sym subtype-known.ensures ∙ if1.false) from16.ensures.0
-    (rw (from16.ensures.0, from8.ensures.0) at put_three.ensures) in record { value = all.0; subtypes_after = all.1 }
+    let from = c.from-rows in
+    subtype-new _ _ _ _ _ _ _ (sym subtype-known.ensures ∙ if1.false) from.ensures
+    (rw (from.ensures, from.ensures) at put_three.ensures) in record { value = all.0; subtypes_after = all.1 }

@@ -5,9 +5,9 @@ use Rattle.rows.proofs.adding.subtype_is.Goals as goal
 
 pub returns-then-are_equal : goal.returns-then-are_equal
 returns-then-are_equal c =
-    rw (c.at16.ensures, c.from8.ensures.0)
-    (sym (subtype-named _ _ _ _ _ (sym (rw (c.at16-first.ensures, c.at16-second.ensures) at c.are_equal.ensures) ∙ c.if-are_equal.true)))
+    rw (c.at.ensures, c.from.ensures)
+    (sym (subtype-named _ _ _ _ _ (sym (rw (c.at-first.ensures, c.at-second.ensures) at c.are_equal.ensures) ∙ c.if-are_equal.true)))
 
 pub returns-else-are_equal : goal.returns-else-are_equal
 returns-else-are_equal c =
-    sym (subtype-not _ _ _ _ _ (sym (rw (c.at16-first.ensures, c.at16-second.ensures) at c.are_equal.ensures) ∙ c.if-are_equal.false))
+    sym (subtype-not _ _ _ _ _ (sym (rw (c.at-first.ensures, c.at-second.ensures) at c.are_equal.ensures) ∙ c.if-are_equal.false))

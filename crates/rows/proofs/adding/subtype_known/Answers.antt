@@ -5,7 +5,7 @@ use Rattle.rows.proofs.Posted.{any-last-hit, any-last-on, any-nothing}
 use Rattle.rows.proofs.adding.subtype_known.Goals as goal
 
 pub loop-i-init : goal.loop-i-init
-loop-i-init c = (omega (arith, c.wide16-i.ensures.1), rw c.wide16-i.ensures.0 refl)
+loop-i-init c = (omega (arith, c.from-i.ensures.1), rw c.from-i.ensures refl)
 
 pub subtype_is-requires : goal.subtype_is-requires
 subtype_is-requires c = omega (arith, c.loop-i.invariant.0)

@@ -6,12 +6,12 @@ use Rattle.rows.proofs.Posted.{any-start}
 use Rattle.rows.proofs.adding.tie_known.Goals as goal
 
 pub loop-i-init : goal.loop-i-init
-loop-i-init c = (omega arith, any-start _ _ _ _ c.wide16-n.ensures.0)
+loop-i-init c = (omega arith, any-start _ _ _ _ c.from-n.ensures)
 
 pub tie_is-requires : goal.tie_is-requires
 tie_is-requires c =
-    let wide16 = c.wide16-n in
-    omega (arith, wide16.ensures.1)
+    let from = c.from-n in
+    omega (arith, from.ensures.1)
 
 pub returns-then-tie_is : goal.returns-then-tie_is
 returns-then-tie_is c =

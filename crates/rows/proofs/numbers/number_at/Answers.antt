@@ -19,7 +19,7 @@ pub returns-then-i-held : goal.returns-then-i-held
 unfolding number_at
 returns-then-i-held c =
     let a = c.args in
-    c.wide16.ensures.0 ∙ sym (standing-there (number_at a.first a.counts.now) a.n a.i (omega (arith, c.requires.1.few, c.if-i-held.true)))
+    c.from.ensures ∙ sym (standing-there (number_at a.first a.counts.now) a.n a.i (omega (arith, c.requires.1.few, c.if-i-held.true)))
 
 pub returns-then-i-n : goal.returns-then-i-n
 unfolding number_at

@@ -10,9 +10,9 @@ use Rattle.rows.proofs.numbers.numbers_fit.Goals as goal
 
 pub loop-tie-init : goal.loop-tie-init
 loop-tie-init c =
-    let w = c.wide16-ties.ensures in
-    let v = c.wide16-subtypes.ensures in
-    (refl, omega arith, omega arith, omega arith, c.number_at-tie.ensures, c.number_at-subtype.ensures, turn-start _ _ _ _ (w.0 ∙ c.at16.ensures) (v.0 ∙ c.at16-2.ensures) refl)
+    let w = c.from-ties.ensures in
+    let v = c.from-subtypes.ensures in
+    (refl, omega arith, omega arith, omega arith, c.number_at-tie.ensures, c.number_at-subtype.ensures, turn-start _ _ _ _ (w.0 ∙ c.at.ensures) (v.0 ∙ c.at-2.ensures) refl)
 
 pub overflow_add-t : goal.overflow_add-t
 overflow_add-t c = omega (arith, c.loop-tie.invariant.0, c.loop-tie.invariant.3)
@@ -28,8 +28,8 @@ loop-tie-preserved-then-tie-k c =
     let i = c.loop-tie.invariant in
     let e = next-is _ _ _ i.3 i.4 c.if-tie-k.true in
     let l = next-there _ (number_at tie_numbers_cell _) _ _ e in
-    let m : c.loop-tie.k < c.wide16-ties.result + c.wide16-subtypes.result = omega (arith, l, i.0, i.2) in
-    (omega (arith, i.0), omega (arith, l), i.2, omega (arith, m, c.wide16-ties.ensures.1, c.wide16-subtypes.ensures.1), c.number_at-tie-then-tie-k.ensures, i.5, sym (turn-tie _ _ _ _ _ _ _ _ m e) ∙ i.6)
+    let m : c.loop-tie.k < c.from-ties.result + c.from-subtypes.result = omega (arith, l, i.0, i.2) in
+    (omega (arith, i.0), omega (arith, l), i.2, omega (arith, m, c.from-ties.ensures.1, c.from-subtypes.ensures.1), c.number_at-tie-then-tie-k.ensures, i.5, sym (turn-tie _ _ _ _ _ _ _ _ m e) ∙ i.6)
 
 pub returns-then-subtype-k : goal.returns-then-subtype-k
 returns-then-subtype-k c =
@@ -47,5 +47,5 @@ loop-tie-preserved c =
     let i = c.loop-tie.invariant in
     let e = next-is _ _ _ i.3 i.5 c.if-subtype-k.false in
     let l = next-there _ (number_at subtype_numbers_cell _) _ _ e in
-    let m : c.loop-tie.k < c.wide16-ties.result + c.wide16-subtypes.result = omega (arith, l, i.0, i.1) in
-    (omega (arith, i.0), i.1, omega (arith, l), omega (arith, m, c.wide16-ties.ensures.1, c.wide16-subtypes.ensures.1), i.4, c.number_at-subtype-in-loop-tie.ensures, sym (turn-subtype _ _ _ _ _ _ _ _ m (next-isnt _ _ _ i.3 i.4 c.if-tie-k.false) e) ∙ i.6)
+    let m : c.loop-tie.k < c.from-ties.result + c.from-subtypes.result = omega (arith, l, i.0, i.1) in
+    (omega (arith, i.0), i.1, omega (arith, l), omega (arith, m, c.from-ties.ensures.1, c.from-subtypes.ensures.1), i.4, c.number_at-subtype-in-loop-tie.ensures, sym (turn-subtype _ _ _ _ _ _ _ _ m (next-isnt _ _ _ i.3 i.4 c.if-tie-k.false) e) ∙ i.6)

@@ -8,7 +8,7 @@ returns-in-Accepted c = rw c.in-Accepted.is
 
 pub returns-in-Defined : goal.returns-in-Defined
 unfolding details
-returns-in-Defined c = rw (c.in-Defined.is, c.from16.ensures.0, c.from8.ensures.0)
+returns-in-Defined c = rw (c.in-Defined.is, c.from.ensures, c.from.ensures)
 
 pub returns-in-Stepped : goal.returns-in-Stepped
 unfolding details
@@ -24,4 +24,4 @@ returns-in-Denied c = rw c.in-Denied.is c.refusal_details.ensures
 
 pub returns-in-Swept : goal.returns-in-Swept
 unfolding details
-returns-in-Swept c = rw (c.in-Swept.is, c.from16-in-Swept.ensures.0)
+returns-in-Swept c = rw (c.in-Swept.is, c.from-in-Swept.ensures)

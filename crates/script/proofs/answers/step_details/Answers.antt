@@ -8,11 +8,11 @@ returns-in-Idle c = rw c.in-Idle.is
 
 pub returns-in-Ran : goal.returns-in-Ran
 unfolding step_details
-returns-in-Ran c = rw (c.in-Ran.is, c.from16.ensures.0, c.from8.ensures.0)
+returns-in-Ran c = rw (c.in-Ran.is, c.from.ensures, c.from.ensures)
 
 pub returns-in-Finished : goal.returns-in-Finished
 unfolding step_details
-returns-in-Finished c = rw (c.in-Finished.is, c.from16-in-Finished.ensures.0, c.from8-in-Finished.ensures.0)
+returns-in-Finished c = rw (c.in-Finished.is, c.from-in-Finished.ensures, c.from-in-Finished.ensures)
 
 pub returns-in-Refused : goal.returns-in-Refused
 unfolding step_details

@@ -5,4 +5,4 @@ use Rattle.script.proofs.files.byte_at.Goals as goal
 pub returns : goal.returns
 unfolding pair_value pair_of
 returns c =
-    rw (c.wide8-low.ensures.0, c.hex_value-2.ensures, c.wide8-high.ensures.0, c.hex_value.ensures)
+    rw (c.from-low.ensures, c.hex_value-2.ensures, c.from-high.ensures, c.hex_value.ensures)

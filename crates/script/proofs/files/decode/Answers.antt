@@ -11,7 +11,7 @@ loop-i-init c = (omega arith, refl, refl)
 
 pub loop-i-preserved : goal.loop-i-preserved
 loop-i-preserved c =
-    (omega arith, rw (c.put8.ensures, c.byte_at.ensures, c.loop-i.invariant.1) (pair-written _ _ _ c.loop-i-test.true), c.put8.auto.t ∙ c.loop-i.invariant.2)
+    (omega arith, rw (c.put.ensures, c.byte_at.ensures, c.loop-i.invariant.1) (pair-written _ _ _ c.loop-i-test.true), c.put.auto.t ∙ c.loop-i.invariant.2)
 
 pub shape_of-file : goal.shape_of-file
 shape_of-file c = c.loop-i.invariant.2

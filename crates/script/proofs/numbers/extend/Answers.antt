@@ -19,4 +19,4 @@ returns-then-wide32-next c =
 pub returns : goal.returns
 unfolding number_is
 returns c =
-    rw (extended-is c.args.most c.args.n c.args.digit c.if-digit-lt48.false c.if-digit-gt57.false (omega (arith, c.if-wide32-next.false)), ← c.wide32.ensures.0, ← c.wide8.ensures.0)
+    rw (extended-is c.args.most c.args.n c.args.digit c.if-digit-lt48.false c.if-digit-gt57.false (omega (arith, c.if-wide32-next.false)), ← c.wide32.ensures.0, ← c.from.ensures)

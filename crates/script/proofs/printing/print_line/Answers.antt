@@ -43,9 +43,9 @@ overflow_add-result c = omega (
 
 pub shape_of-out : goal.shape_of-out
 shape_of-out c =
-    c.put8-2.auto.t ∙ (c.put_int-d.auto.out ∙ (c.put_number-c.auto.out ∙ (c.put_number-b.auto.out ∙ (c.put_number-a.auto.out ∙ c.put8.auto.t))))
+    c.put-2.auto.t ∙ (c.put_int-d.auto.out ∙ (c.put_number-c.auto.out ∙ (c.put_number-b.auto.out ∙ (c.put_number-a.auto.out ∙ c.put.auto.t))))
 
 pub returns : goal.returns
 returns c =
-    line_wrote _ _ _ _ _ _ _ _ _ _ _ _ _ _ _ _ c.put8.ensures (rw (c.from16.ensures.0, c.from8.ensures.0) at c.put_number-a.ensures)
-    c.put_number-b.ensures c.put_number-c.ensures c.put_int-d.ensures c.put8-2.ensures
+    line_wrote _ _ _ _ _ _ _ _ _ _ _ _ _ _ _ _ c.put.ensures (rw (c.from.ensures, c.from.ensures) at c.put_number-a.ensures)
+    c.put_number-b.ensures c.put_number-c.ensures c.put_int-d.ensures c.put-2.ensures

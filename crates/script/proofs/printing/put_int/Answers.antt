@@ -8,8 +8,8 @@ returns-then-bits-lt-SIGN_BIT c = rw (signed-small _ c.if-bits-lt-SIGN_BIT.true)
 
 pub shape_of-out : goal.shape_of-out
 shape_of-out c =
-    c.put_digits.auto.out ∙ (c.put8-2.auto.t ∙ c.put8.auto.t)
+    c.put_digits.auto.out ∙ (c.put-2.auto.t ∙ c.put.auto.t)
 
 pub returns : goal.returns
 returns c =
-    minus-wrote _ _ _ _ _ c.put8.ensures _ _ c.if-bits-lt-SIGN_BIT.false c.put8-2.ensures c.put_digits.ensures
+    minus-wrote _ _ _ _ _ c.put.ensures _ _ c.if-bits-lt-SIGN_BIT.false c.put-2.ensures c.put_digits.ensures

@@ -4,4 +4,4 @@ use Rattle.script.proofs.printing.put_number.Goals as goal
 
 pub returns : goal.returns
 returns c =
-    number-wrote _ _ _ _ _ c.put8.ensures _ c.put_digits.ensures
+    number-wrote _ _ _ _ _ c.put.ensures _ c.put_digits.ensures

@@ -13,12 +13,12 @@ returns-then-n-gt65536 c = record { command = rw (line-long _ c.if-n-gt65536.tru
 
 pub returns-then-n-eq1 : goal.returns-then-n-eq1
 returns-then-n-eq1 c =
-    record { command = rw (line-one _ c.if-n-eq1.true, ← c.at8-letter.ensures) c.read_single.ensures; table = rw (line-one _ c.if-n-eq1.true) (sym (single-keeps _ _)) }
+    record { command = rw (line-one _ c.if-n-eq1.true, ← c.at-letter.ensures) c.read_single.ensures; table = rw (line-one _ c.if-n-eq1.true) (sym (single-keeps _ _)) }
 
-pub returns-then-at8-ne32 : goal.returns-then-at8-ne32
+pub returns-then-at-ne32 : goal.returns-then-at-ne32
 unfolding said decoded
-returns-then-at8-ne32 c =
-    let joined = line-joined c.args.line.now c.if-n-eq1.false (λ e. c.if-at8-ne32.true (c.at8.ensures ∙ e)) in record { command = rw joined; table = rw joined }
+returns-then-at-ne32 c =
+    let joined = line-joined c.args.line.now c.if-n-eq1.false (λ e. c.if-at-ne32.true (c.at.ensures ∙ e)) in record { command = rw joined; table = rw joined }
 
 pub read_call-requires : goal.read_call-requires
 read_call-requires c =
@@ -26,4 +26,4 @@ read_call-requires c =
 
 pub returns : goal.returns
 returns c =
-    rw (line-call _ c.if-n-gt65536.false c.if-n-eq1.false (sym c.at8.ensures ∙ c.if-at8-ne32.false), ← c.at8-letter.ensures, ← c.after.ensures) c.read_call.ensures
+    rw (line-call _ c.if-n-gt65536.false c.if-n-eq1.false (sym c.at.ensures ∙ c.if-at-ne32.false), ← c.at-letter.ensures, ← c.after.ensures) c.read_call.ensures

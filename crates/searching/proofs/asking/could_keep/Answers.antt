@@ -7,7 +7,7 @@ pub returns-then-file-gt-FILE_LIMIT : goal.returns-then-file-gt-FILE_LIMIT
 returns-then-file-gt-FILE_LIMIT c = too_long _ _ c.if-file-gt-FILE_LIMIT.true
 
 pub overflow_add-result : goal.overflow_add-result
-overflow_add-result c = omega (arith, c.wide16.ensures.1, c.if-file-gt-FILE_LIMIT.false)
+overflow_add-result c = omega (arith, c.from.ensures.1, c.if-file-gt-FILE_LIMIT.false)
 
 pub returns : goal.returns
-returns c = by-room _ _ c.if-file-gt-FILE_LIMIT.false _ c.at16.ensures _ c.wide16.ensures.0
+returns c = by-room _ _ c.if-file-gt-FILE_LIMIT.false _ c.at.ensures _ c.from.ensures

@@ -22,7 +22,7 @@ pub loop-i-smaller : goal.loop-i-smaller
 loop-i-smaller c = omega (arith, c.loop-i-test.true)
 
 pub loop-i-preserved : goal.loop-i-preserved
-loop-i-preserved c = (omega (arith, c.loop-i-test.true), c.loop-i.invariant.1, none_more _ _ _ _ _ _ c.loop-i.invariant.2 c.from16.ensures.0 (sym c.is_for.ensures ∙ c.if-is_for.false))
+loop-i-preserved c = (omega (arith, c.loop-i-test.true), c.loop-i.invariant.1, none_more _ _ _ _ _ _ c.loop-i.invariant.2 c.from.ensures (sym c.is_for.ensures ∙ c.if-is_for.false))
 
 pub returns : goal.returns
 returns c = λ _. none_end _ _ _ _ _ _ c.loop-i.invariant.2 c.loop-i-test.false c.loop-i.invariant.1

@@ -59,7 +59,7 @@ try_one-order_of-rest-requires t c =
       omega (arith, c.decreases),
       (
         one-whole _ _ (at a.loader a.name) a.n _ a.used.now _ _ _ c.requires.frames_value c.requires.files_value c.requires.i_in_bounds c.load_one.ensures c.if-not-load_one.false,
-        (c.requires.files_value, (c.put8.auto.t ∙ c.copy8.auto.target, omega (arith, c.requires.n_bound))),
+        (c.requires.files_value, (c.put.auto.t ∙ c.copy8.auto.target, omega (arith, c.requires.n_bound))),
       ),
     )
 
@@ -76,6 +76,6 @@ try_one-returns t c =
     let len : length a.used.now ≡ 8 = c.requires.used_len in
     let flag = is-worth a.offers.now a.files.now (at a.loader a.name) a.n a.i a.used.now (tables a.counts.now a.classes.now a.kept.now a.cache.now a.ties.now a.subtypes.now a.objects.now a.frames.now) (sym c.is_worth.ensures ∙ c.if-not-is_worth.false) in
     is-tried _ _ _ _ _ _ _ _ _ flag
-    (one-done _ _ _ _ _ _ _ _ _ c.requires.frames_value c.requires.files_value c.requires.i_in_bounds c.load_one.ensures c.if-not-load_one.false _ (marked _ _ _ _ _ len refl c.copy8.ensures c.put8.ensures)
+    (one-done _ _ _ _ _ _ _ _ _ c.requires.frames_value c.requires.files_value c.requires.i_in_bounds c.load_one.ensures c.if-not-load_one.false _ (marked _ _ _ _ _ len refl c.copy8.ensures c.put.ensures)
     (is-unused a.offers.now a.files.now (at a.loader a.name) a.n a.i a.used.now (tables a.counts.now a.classes.now a.kept.now a.cache.now a.ties.now a.subtypes.now a.objects.now a.frames.now) flag)
     (omega (arith, i8, len)) _ _ c.order_of-rest.ensures _ c.with_first.ensures i8 refl refl _ _ _ refl c.copy16.ensures c.copy16-2.ensures)

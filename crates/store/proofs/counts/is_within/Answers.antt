@@ -3,4 +3,4 @@ use borrow.Author.Rules.{rules}
 use Rattle.store.proofs.counts.is_within.Goals as goal
 
 pub returns : goal.returns
-returns c = rw c.at16.ensures
+returns c = rw c.at.ensures

@@ -12,7 +12,7 @@ use Rattle.layout.specs.Places.{rows_end, rows-hit, rows_on, rows_start}
 use Rattle.store.proofs.sources.entries_fit.Goals as goal
 
 pub loop-i-init : goal.loop-i-init
-loop-i-init c = (omega arith, rw (c.at16-n.ensures, c.at16-classes.ensures) (ap (all (entry_fits (get_or c.args.counts.now 0 0))) (rows_start _ _)))
+loop-i-init c = (omega arith, rw (c.at-n.ensures, c.at-classes.ensures) (ap (all (entry_fits (get_or c.args.counts.now 0 0))) (rows_start _ _)))
 
 pub returns-then-not-entry_fits : goal.returns-then-not-entry_fits
 returns-then-not-entry_fits c = sym (rows-hit _ _ _ _ c.loop-i-test.true (sym c.entry_fits.ensures ∙ c.if-not-entry_fits.true)) ∙ c.loop-i.invariant.1

@@ -7,10 +7,10 @@ use Rattle.definition.specs.Tables.{entry_at}
 use Rattle.classfile.specs.Lists.{every-fails, every_first, every-last}
 use Rattle.store.proofs.sources.entry_fits.Goals as goal
 
-pub returns-then-at16-ge-LOADERS : goal.returns-then-at16-ge-LOADERS
+pub returns-then-at-ge-LOADERS : goal.returns-then-at-ge-LOADERS
 unfolding entry_fits entry_at
-returns-then-at16-ge-LOADERS c = rw (← c.wide16-place.ensures.0, ← c.at16.ensures) (sym (every-fails _ _ (le-ltb _ _ c.if-at16-ge-LOADERS.true)))
+returns-then-at-ge-LOADERS c = rw (← c.from-place.ensures, ← c.at.ensures) (sym (every-fails _ _ (le-ltb _ _ c.if-at-ge-LOADERS.true)))
 
 pub returns : goal.returns
 unfolding entry_fits entry_at
-returns c = rw (← c.wide16-place.ensures.0, ← c.at16.ensures, ← c.at16-2.ensures) (sym (every_first _ _ (lt-ltb _ _ c.if-at16-ge-LOADERS.false) ∙ (every-last _)))
+returns c = rw (← c.from-place.ensures, ← c.at.ensures, ← c.at-2.ensures) (sym (every_first _ _ (lt-ltb _ _ c.if-at-ge-LOADERS.false) ∙ (every-last _)))

@@ -7,14 +7,14 @@ use Rattle.definition.specs.Tables.{class_row_at}
 use Rattle.classfile.specs.Lists.{every-fails, every_first, every-last}
 use Rattle.store.proofs.sources.is_object.Goals as goal
 
-pub returns-then-at16-ne0 : goal.returns-then-at16-ne0
+pub returns-then-at-ne0 : goal.returns-then-at-ne0
 unfolding is_object class_row_at
-returns-then-at16-ne0 c = rw (← c.at16.ensures) (sym (every-fails _ _ (ne_eqb _ _ c.if-at16-ne0.true)))
+returns-then-at-ne0 c = rw (← c.at.ensures) (sym (every-fails _ _ (ne_eqb _ _ c.if-at-ne0.true)))
 
-pub returns-then-at16-ne0-2 : goal.returns-then-at16-ne0-2
+pub returns-then-at-ne0-2 : goal.returns-then-at-ne0-2
 unfolding is_object class_row_at
-returns-then-at16-ne0-2 c = rw (← c.at16.ensures, ← c.at16-2.ensures) (sym (every_first _ _ (eq-eqb _ _ c.if-at16-ne0.false) ∙ (every-fails _ _ (ne_eqb _ _ c.if-at16-ne0-2.true))))
+returns-then-at-ne0-2 c = rw (← c.at.ensures, ← c.at-2.ensures) (sym (every_first _ _ (eq-eqb _ _ c.if-at-ne0.false) ∙ (every-fails _ _ (ne_eqb _ _ c.if-at-ne0-2.true))))
 
 pub returns : goal.returns
 unfolding is_object class_row_at
-returns c = rw (← c.at16.ensures, ← c.at16-2.ensures, ← c.at16-3.ensures) (sym (every_first _ _ (eq-eqb _ _ c.if-at16-ne0.false) ∙ (every_first _ _ (eq-eqb _ _ c.if-at16-ne0-2.false) ∙ (every-last _))))
+returns c = rw (← c.at.ensures, ← c.at-2.ensures, ← c.at-3.ensures) (sym (every_first _ _ (eq-eqb _ _ c.if-at-ne0.false) ∙ (every_first _ _ (eq-eqb _ _ c.if-at-ne0-2.false) ∙ (every-last _))))

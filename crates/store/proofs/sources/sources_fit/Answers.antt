@@ -13,13 +13,13 @@ use Rattle.store.specs.Checks.{file_fits, sources_fit}
 use Rattle.store.proofs.sources.sources_fit.Goals as goal
 
 pub returns-then-n-eq0 : goal.returns-then-n-eq0
-returns-then-n-eq0 c = sym (sources-none _ _ _ _ (sym c.at16-n.ensures ∙ c.if-n-eq0.true))
+returns-then-n-eq0 c = sym (sources-none _ _ _ _ (sym c.at-n.ensures ∙ c.if-n-eq0.true))
 
 pub returns-then-not-is_object : goal.returns-then-not-is_object
-returns-then-not-is_object c = sym (sources-unfit _ _ _ _ (omega (arith, c.at16-n.ensures, c.if-n-eq0.false)) (sym c.is_object.ensures ∙ c.if-not-is_object.true))
+returns-then-not-is_object c = sym (sources-unfit _ _ _ _ (omega (arith, c.at-n.ensures, c.if-n-eq0.false)) (sym c.is_object.ensures ∙ c.if-not-is_object.true))
 
 pub loop-c-init : goal.loop-c-init
-loop-c-init c = rw c.at16-n.ensures (sym (sources-rest _ _ _ _ (omega (arith, c.at16-n.ensures, c.if-n-eq0.false)) (sym c.is_object.ensures ∙ c.if-not-is_object.false)))
+loop-c-init c = rw c.at-n.ensures (sym (sources-rest _ _ _ _ (omega (arith, c.at-n.ensures, c.if-n-eq0.false)) (sym c.is_object.ensures ∙ c.if-not-is_object.false)))
 
 pub returns-then-not-file_fits : goal.returns-then-not-file_fits
 returns-then-not-file_fits c = sym (rows-hit _ _ _ _ c.loop-c-test.true (sym c.file_fits.ensures ∙ c.if-not-file_fits.true)) ∙ c.loop-c.invariant

@@ -6,4 +6,4 @@ use Rattle.store.proofs.sources.subtype_fits.Goals as goal
 
 pub returns : goal.returns
 unfolding subtype_fits subtype_at
-returns c = rw (c.at16.ensures, c.wide16.ensures.0)
+returns c = rw (c.at.ensures, c.from.ensures)

@@ -12,7 +12,7 @@ use Rattle.layout.specs.Places.{rows_end, rows-hit, rows_on, rows_start}
 use Rattle.store.proofs.sources.subtypes_fit.Goals as goal
 
 pub loop-i-init : goal.loop-i-init
-loop-i-init c = (omega arith, rw c.at16-n.ensures (ap (all subtype_fits) (rows_start _ _)))
+loop-i-init c = (omega arith, rw c.at-n.ensures (ap (all subtype_fits) (rows_start _ _)))
 
 pub returns-then-not-subtype_fits : goal.returns-then-not-subtype_fits
 returns-then-not-subtype_fits c = sym (rows-hit _ _ _ _ c.loop-i-test.true (sym c.subtype_fits.ensures ∙ c.if-not-subtype_fits.true)) ∙ c.loop-i.invariant.1

@@ -11,7 +11,7 @@ loop-i-init c = refl
 
 pub loop-i-preserved : goal.loop-i-preserved
 unfolding entry_end entry_at
-loop-i-preserved c = rw (c.greater-end.ensures, c.wide16-in-loop-i.ensures.0, c.at16.ensures, c.wide16.ensures.0) (sym (highest-step _ _ _ _ c.loop-i-test.true) ∙ c.loop-i.invariant)
+loop-i-preserved c = rw (c.greater-end.ensures, c.from-in-loop-i.ensures, c.at.ensures, c.from.ensures) (sym (highest-step _ _ _ _ c.loop-i-test.true) ∙ c.loop-i.invariant)
 
 pub returns : goal.returns
 returns c = sym (highest-end _ _ _ _ c.loop-i-test.false) ∙ c.loop-i.invariant

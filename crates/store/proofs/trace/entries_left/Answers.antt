@@ -5,4 +5,4 @@ use Rattle.store.proofs.trace.entries_left.Goals as goal
 
 pub returns : goal.returns
 unfolding level_at
-returns c = rw (c.at16.ensures, c.wide16.ensures.0)
+returns c = rw (c.at.ensures, c.from.ensures)

@@ -6,9 +6,9 @@ use Rattle.classfile.specs.Lists.{every-fails, every_first, every-last}
 use Rattle.store.specs.Tracing.{is_le, level_from, not-le, under}
 use Rattle.store.proofs.trace.is_under.Goals as goal
 
-pub returns-then-at16 : goal.returns-then-at16
+pub returns-then-at : goal.returns-then-at
 unfolding under level_from
-returns-then-at16 c = sym (every-fails _ _ (not-le c.at16.ensures c.at16-2.ensures c.if-at16.true))
+returns-then-at c = sym (every-fails _ _ (not-le c.at.ensures c.at-2.ensures c.if-at.true))
 
 pub overflow_add-above : goal.overflow_add-above
 overflow_add-above c = omega (arith, c.requires.0, c.requires.1)
@@ -16,9 +16,9 @@ overflow_add-above c = omega (arith, c.requires.0, c.requires.1)
 pub overflow_add-place : goal.overflow_add-place
 overflow_add-place c = omega (arith, c.requires.0, c.requires.1)
 
-pub returns-then-at16-2 : goal.returns-then-at16-2
+pub returns-then-at-2 : goal.returns-then-at-2
 unfolding under level_from
-returns-then-at16-2 c = sym (every_first _ _ (is_le c.at16.ensures c.at16-2.ensures c.if-at16.false) ∙ (every-fails _ _ (not-le c.at16-3.ensures c.at16-4.ensures c.if-at16-2.true)))
+returns-then-at-2 c = sym (every_first _ _ (is_le c.at.ensures c.at-2.ensures c.if-at.false) ∙ (every-fails _ _ (not-le c.at-3.ensures c.at-4.ensures c.if-at-2.true)))
 
 pub overflow_add-above-2 : goal.overflow_add-above-2
 overflow_add-above-2 c = omega (arith, c.requires.0, c.requires.1)
@@ -26,9 +26,9 @@ overflow_add-above-2 c = omega (arith, c.requires.0, c.requires.1)
 pub overflow_add-place-2 : goal.overflow_add-place-2
 overflow_add-place-2 c = omega (arith, c.requires.0, c.requires.1)
 
-pub returns-then-at16-3 : goal.returns-then-at16-3
+pub returns-then-at-3 : goal.returns-then-at-3
 unfolding under level_from
-returns-then-at16-3 c = sym (every_first _ _ (is_le c.at16.ensures c.at16-2.ensures c.if-at16.false) ∙ (every_first _ _ (is_le c.at16-3.ensures c.at16-4.ensures c.if-at16-2.false) ∙ (every-fails _ _ (not-le c.at16-5.ensures c.at16-6.ensures c.if-at16-3.true))))
+returns-then-at-3 c = sym (every_first _ _ (is_le c.at.ensures c.at-2.ensures c.if-at.false) ∙ (every_first _ _ (is_le c.at-3.ensures c.at-4.ensures c.if-at-2.false) ∙ (every-fails _ _ (not-le c.at-5.ensures c.at-6.ensures c.if-at-3.true))))
 
 pub overflow_add-above-3 : goal.overflow_add-above-3
 overflow_add-above-3 c = omega (arith, c.requires.0, c.requires.1)
@@ -36,9 +36,9 @@ overflow_add-above-3 c = omega (arith, c.requires.0, c.requires.1)
 pub overflow_add-place-3 : goal.overflow_add-place-3
 overflow_add-place-3 c = omega (arith, c.requires.0, c.requires.1)
 
-pub returns-then-at16-4 : goal.returns-then-at16-4
+pub returns-then-at-4 : goal.returns-then-at-4
 unfolding under level_from
-returns-then-at16-4 c = sym (every_first _ _ (is_le c.at16.ensures c.at16-2.ensures c.if-at16.false) ∙ (every_first _ _ (is_le c.at16-3.ensures c.at16-4.ensures c.if-at16-2.false) ∙ (every_first _ _ (is_le c.at16-5.ensures c.at16-6.ensures c.if-at16-3.false) ∙ (every-fails _ _ (not-le c.at16-7.ensures c.at16-8.ensures c.if-at16-4.true)))))
+returns-then-at-4 c = sym (every_first _ _ (is_le c.at.ensures c.at-2.ensures c.if-at.false) ∙ (every_first _ _ (is_le c.at-3.ensures c.at-4.ensures c.if-at-2.false) ∙ (every_first _ _ (is_le c.at-5.ensures c.at-6.ensures c.if-at-3.false) ∙ (every-fails _ _ (not-le c.at-7.ensures c.at-8.ensures c.if-at-4.true)))))
 
 pub overflow_add-place-4 : goal.overflow_add-place-4
 overflow_add-place-4 c = omega (arith, c.requires.0, c.requires.1)
@@ -48,4 +48,4 @@ overflow_add-above-4 c = omega (arith, c.requires.0, c.requires.1)
 
 pub returns : goal.returns
 unfolding under level_from
-returns c = rw (c.at16-9.ensures, c.at16-10.ensures) (sym (every_first _ _ (is_le c.at16.ensures c.at16-2.ensures c.if-at16.false) ∙ (every_first _ _ (is_le c.at16-3.ensures c.at16-4.ensures c.if-at16-2.false) ∙ (every_first _ _ (is_le c.at16-5.ensures c.at16-6.ensures c.if-at16-3.false) ∙ (every_first _ _ (is_le c.at16-7.ensures c.at16-8.ensures c.if-at16-4.false) ∙ (every-last _))))))
+returns c = rw (c.at-9.ensures, c.at-10.ensures) (sym (every_first _ _ (is_le c.at.ensures c.at-2.ensures c.if-at.false) ∙ (every_first _ _ (is_le c.at-3.ensures c.at-4.ensures c.if-at-2.false) ∙ (every_first _ _ (is_le c.at-5.ensures c.at-6.ensures c.if-at-3.false) ∙ (every_first _ _ (is_le c.at-7.ensures c.at-8.ensures c.if-at-4.false) ∙ (every-last _))))))

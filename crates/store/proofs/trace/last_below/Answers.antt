@@ -12,7 +12,7 @@ pub overflow_sub-n : goal.overflow_sub-n
 overflow_sub-n c = omega (arith, c.if-n-eq0.false)
 
 pub overflow_add-first : goal.overflow_add-first
-overflow_add-first c = omega (arith, c.requires, c.wide16.ensures.1)
+overflow_add-first c = omega (arith, c.requires, c.from.ensures.1)
 
 pub returns : goal.returns
-returns c = rw (c.wide16-2.ensures.0, c.at16.ensures, c.wide16.ensures.0) (sym (last_some _ _ _ _ c.if-n-eq0.false))
+returns c = rw (c.from-2.ensures, c.at.ensures, c.from.ensures) (sym (last_some _ _ _ _ c.if-n-eq0.false))

@@ -13,13 +13,13 @@ pub loop-i-init : goal.loop-i-init
 loop-i-init c = (omega arith, refl)
 
 pub is_under-requires : goal.is_under-requires
-is_under-requires c = (omega (arith, c.wide16.ensures.1), c.loop-i.invariant.0)
+is_under-requires c = (omega (arith, c.from.ensures.1), c.loop-i.invariant.0)
 
 pub returns-then-not-is_under : goal.returns-then-not-is_under
-returns-then-not-is_under c = falls-fail _ _ _ _ _ _ c.loop-i.invariant.1 c.loop-i-test.true c.wide16.ensures.0 c.is_under.ensures c.if-not-is_under.true
+returns-then-not-is_under c = falls-fail _ _ _ _ _ _ c.loop-i.invariant.1 c.loop-i-test.true c.from.ensures c.is_under.ensures c.if-not-is_under.true
 
 pub loop-i-preserved : goal.loop-i-preserved
-loop-i-preserved c = (omega (arith, c.wide16.ensures.1), falls-on _ _ _ _ _ _ c.loop-i.invariant.1 c.loop-i-test.true c.wide16.ensures.0 c.is_under.ensures c.if-not-is_under.false)
+loop-i-preserved c = (omega (arith, c.from.ensures.1), falls-on _ _ _ _ _ _ c.loop-i.invariant.1 c.loop-i-test.true c.from.ensures c.is_under.ensures c.if-not-is_under.false)
 
 pub returns : goal.returns
 returns c = sym (falling-none _ _ _ c.loop-i-test.false) ∙ c.loop-i.invariant.1

@@ -7,7 +7,7 @@ use Rattle.store.specs.Tracing.{highest, highest-end, highest-start, highest-ste
 use Rattle.store.proofs.trace.objects_end.Goals as goal
 
 pub loop-o-init : goal.loop-o-init
-loop-o-init c = rw c.at16-n.ensures (highest-start _ _ _)
+loop-o-init c = rw c.at-n.ensures (highest-start _ _ _)
 
 pub loop-o-preserved : goal.loop-o-preserved
 loop-o-preserved c = rw (c.greater-end.ensures, c.object_end.ensures) (sym (highest-step _ _ _ _ c.loop-o-test.true) ∙ c.loop-o.invariant)

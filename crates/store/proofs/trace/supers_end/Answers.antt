@@ -10,7 +10,7 @@ loop-c-init c = refl
 
 pub loop-c-preserved : goal.loop-c-preserved
 unfolding cell_at
-loop-c-preserved c = rw (c.greater-end.ensures, c.wide16-in-loop-c.ensures.0, c.at16.ensures, c.wide16.ensures.0) (sym (highest-step _ _ _ _ c.loop-c-test.true) ∙ c.loop-c.invariant)
+loop-c-preserved c = rw (c.greater-end.ensures, c.from-in-loop-c.ensures, c.at.ensures, c.from.ensures) (sym (highest-step _ _ _ _ c.loop-c-test.true) ∙ c.loop-c.invariant)
 
 pub returns : goal.returns
 returns c = sym (highest-end _ _ _ _ c.loop-c-test.false) ∙ c.loop-c.invariant

@@ -15,18 +15,18 @@ pub loop-i-init : goal.loop-i-init
 loop-i-init c = (omega arith, ap (all _) (rows_start _ _))
 
 pub bounds-objects-place : goal.bounds-objects-place
-bounds-objects-place c = omega (arith, c.requires.0, c.requires.1, c.loop-i-test.true, c.wide16-first.ensures.0, c.wide8.ensures.0)
+bounds-objects-place c = omega (arith, c.requires.0, c.requires.1, c.loop-i-test.true, c.from-first.ensures, c.from.ensures)
 
 pub bounds-objects-place-in-loop-i : goal.bounds-objects-place-in-loop-i
-bounds-objects-place-in-loop-i c = omega (arith, c.requires.0, c.requires.1, c.loop-i-test.true, c.wide16-first.ensures.0, c.wide8.ensures.0)
+bounds-objects-place-in-loop-i c = omega (arith, c.requires.0, c.requires.1, c.loop-i-test.true, c.from-first.ensures, c.from.ensures)
 
 pub returns-then-not-value_fits : goal.returns-then-not-value_fits
 unfolding field_at value_at
-returns-then-not-value_fits c = sym (rows-hit _ (field_at c.args.objects.now c.args.o) _ _ c.loop-i-test.true (rw (← c.wide16-first.ensures.0, ← c.wide8.ensures.0) (sym c.value_fits.ensures ∙ c.if-not-value_fits.true))) ∙ c.loop-i.invariant.1
+returns-then-not-value_fits c = sym (rows-hit _ (field_at c.args.objects.now c.args.o) _ _ c.loop-i-test.true (rw (← c.from-first.ensures, ← c.from.ensures) (sym c.value_fits.ensures ∙ c.if-not-value_fits.true))) ∙ c.loop-i.invariant.1
 
 pub loop-i-preserved : goal.loop-i-preserved
 unfolding field_at value_at
-loop-i-preserved c = (omega arith, sym (rows_on _ (field_at c.args.objects.now c.args.o) _ _ c.loop-i-test.true (rw (← c.wide16-first.ensures.0, ← c.wide8.ensures.0) (sym c.value_fits.ensures ∙ c.if-not-value_fits.false))) ∙ c.loop-i.invariant.1)
+loop-i-preserved c = (omega arith, sym (rows_on _ (field_at c.args.objects.now c.args.o) _ _ c.loop-i-test.true (rw (← c.from-first.ensures, ← c.from.ensures) (sym c.value_fits.ensures ∙ c.if-not-value_fits.false))) ∙ c.loop-i.invariant.1)
 
 pub returns : goal.returns
 returns c = sym (rows_end _ _ _ _ c.loop-i-test.false) ∙ c.loop-i.invariant.1

@@ -11,18 +11,18 @@ use Rattle.store.proofs.Laws.{frame-tests}
 use Rattle.store.specs.Checks.{exists, value_in}
 use Rattle.store.proofs.values.frame_fits.Goals as goal
 
-pub returns-then-classes-at32 : goal.returns-then-classes-at32
-returns-then-classes-at32 c = sym (frame-tests _ _ _ _ ∙ (every-fails _ _ (rw (← c.wide32.ensures.0, ← c.at32.ensures) (le-ltb _ _ c.if-classes-at32.true))))
+pub returns-then-classes-at : goal.returns-then-classes-at
+returns-then-classes-at c = sym (frame-tests _ _ _ _ ∙ (every-fails _ _ (rw (← c.wide32.ensures.0, ← c.at.ensures) (le-ltb _ _ c.if-classes-at.true))))
 
 pub returns-then-depth-gt-OPERAND_LIMIT : goal.returns-then-depth-gt-OPERAND_LIMIT
-returns-then-depth-gt-OPERAND_LIMIT c = sym (frame-tests _ _ _ _ ∙ (every_first _ _ (rw (← c.wide32.ensures.0, ← c.at32.ensures) (lt-ltb _ _ c.if-classes-at32.false)) ∙ (every-fails _ _ (rw (← c.wide32-2.ensures.0, ← c.at32-depth.ensures) (lt-leb _ _ c.if-depth-gt-OPERAND_LIMIT.true)))))
+returns-then-depth-gt-OPERAND_LIMIT c = sym (frame-tests _ _ _ _ ∙ (every_first _ _ (rw (← c.wide32.ensures.0, ← c.at.ensures) (lt-ltb _ _ c.if-classes-at.false)) ∙ (every-fails _ _ (rw (← c.wide32-2.ensures.0, ← c.at-depth.ensures) (lt-leb _ _ c.if-depth-gt-OPERAND_LIMIT.true)))))
 
 pub returns-then-not-operands_fit : goal.returns-then-not-operands_fit
 returns-then-not-operands_fit c =
     let frames = c.args.frames.now in
-    sym (frame-tests _ _ _ _ ∙ (every_first _ _ (rw (← c.wide32.ensures.0, ← c.at32.ensures) (lt-ltb _ _ c.if-classes-at32.false)) ∙ (every_first _ _ (rw (← c.wide32-2.ensures.0, ← c.at32-depth.ensures) (le-leb _ _ c.if-depth-gt-OPERAND_LIMIT.false)) ∙ (every-fails _ _ (ap (λ (d : ℕ). all (value_in (exists c.args.counts.now c.args.made)) (stack (operand_at frames c.args.b) d)) (sym (c.at32-depth.ensures ∙ ap (λ (i : ℕ). get_or frames (i + 3) 0) c.wide32-2.ensures.0)) ∙ (sym c.operands_fit.ensures ∙ c.if-not-operands_fit.true))))))
+    sym (frame-tests _ _ _ _ ∙ (every_first _ _ (rw (← c.wide32.ensures.0, ← c.at.ensures) (lt-ltb _ _ c.if-classes-at.false)) ∙ (every_first _ _ (rw (← c.wide32-2.ensures.0, ← c.at-depth.ensures) (le-leb _ _ c.if-depth-gt-OPERAND_LIMIT.false)) ∙ (every-fails _ _ (ap (λ (d : ℕ). all (value_in (exists c.args.counts.now c.args.made)) (stack (operand_at frames c.args.b) d)) (sym (c.at-depth.ensures ∙ ap (λ (i : ℕ). get_or frames (i + 3) 0) c.wide32-2.ensures.0)) ∙ (sym c.operands_fit.ensures ∙ c.if-not-operands_fit.true))))))
 
 pub returns : goal.returns
 returns c =
     let frames = c.args.frames.now in
-    c.locals_fit.ensures ∙ sym (frame-tests _ _ _ _ ∙ (every_first _ _ (rw (← c.wide32.ensures.0, ← c.at32.ensures) (lt-ltb _ _ c.if-classes-at32.false)) ∙ (every_first _ _ (rw (← c.wide32-2.ensures.0, ← c.at32-depth.ensures) (le-leb _ _ c.if-depth-gt-OPERAND_LIMIT.false)) ∙ (every_first _ _ (ap (λ (d : ℕ). all (value_in (exists c.args.counts.now c.args.made)) (stack (operand_at frames c.args.b) d)) (sym (c.at32-depth.ensures ∙ ap (λ (i : ℕ). get_or frames (i + 3) 0) c.wide32-2.ensures.0)) ∙ (sym c.operands_fit.ensures ∙ c.if-not-operands_fit.false)) ∙ (every-last _)))))
+    c.locals_fit.ensures ∙ sym (frame-tests _ _ _ _ ∙ (every_first _ _ (rw (← c.wide32.ensures.0, ← c.at.ensures) (lt-ltb _ _ c.if-classes-at.false)) ∙ (every_first _ _ (rw (← c.wide32-2.ensures.0, ← c.at-depth.ensures) (le-leb _ _ c.if-depth-gt-OPERAND_LIMIT.false)) ∙ (every_first _ _ (ap (λ (d : ℕ). all (value_in (exists c.args.counts.now c.args.made)) (stack (operand_at frames c.args.b) d)) (sym (c.at-depth.ensures ∙ ap (λ (i : ℕ). get_or frames (i + 3) 0) c.wide32-2.ensures.0)) ∙ (sym c.operands_fit.ensures ∙ c.if-not-operands_fit.false)) ∙ (every-last _)))))

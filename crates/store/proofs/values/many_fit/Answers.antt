@@ -14,7 +14,7 @@ use borrow.Author.Rules.{rules}
 use Rattle.store.proofs.values.many_fit.Goals as goal
 
 pub loop-at-init : goal.loop-at-init
-loop-at-init c = (0, omega (arith, c.wide16.ensures.0), omega (arith, c.wide16.ensures.0, c.wide8.ensures.0), omega arith, ap (all _) (rows_start _ _))
+loop-at-init c = (0, omega (arith, c.from.ensures), omega (arith, c.from.ensures, c.from.ensures), omega arith, ap (all _) (rows_start _ _))
 
 pub loop-at-preserved : goal.loop-at-preserved
 loop-at-preserved c = let loop = c.loop-at.invariant in

@@ -10,4 +10,4 @@ returns-then-made-o c = sym (exists-past _ _ _ c.if-made-o.true)
 
 pub returns : goal.returns
 unfolding owner_at
-returns c = rw (c.at16.ensures, c.wide32.ensures.0) (sym (exists-owned _ _ _ c.if-made-o.false))
+returns c = rw (c.at.ensures, c.wide32.ensures.0) (sym (exists-owned _ _ _ c.if-made-o.false))

@@ -8,22 +8,22 @@ use borrow.Author.Rules.{rules}
 use Rattle.store.proofs.values.object_fits.Goals as goal
 
 pub bounds-counts-row : goal.bounds-counts-row
-bounds-counts-row c = omega (arith, c.requires.2, c.requires.4, c.wide16-row.ensures.0)
+bounds-counts-row c = omega (arith, c.requires.2, c.requires.4, c.from-row.ensures)
 
 pub returns-then-owner-eq0 : goal.returns-then-owner-eq0
 unfolding object_sized owner_at
-returns-then-owner-eq0 c = rw (← c.wide16-row.ensures.0) (sym (row-free _ _ _ _ c.if-owner-eq0.true))
+returns-then-owner-eq0 c = rw (← c.from-row.ensures) (sym (row-free _ _ _ _ c.if-owner-eq0.true))
 
 pub returns-then-owner-gt-LAST_OWNER : goal.returns-then-owner-gt-LAST_OWNER
 unfolding object_sized owner_at
-returns-then-owner-gt-LAST_OWNER c = rw (← c.wide16-row.ensures.0) (sym (task-past _ _ _ _ c.if-owner-gt-LAST_OWNER.true))
+returns-then-owner-gt-LAST_OWNER c = rw (← c.from-row.ensures) (sym (task-past _ _ _ _ c.if-owner-gt-LAST_OWNER.true))
 
 pub bounds-objects-row : goal.bounds-objects-row
-bounds-objects-row c = omega (arith, c.requires.3, c.requires.4, c.wide16-row.ensures.0)
+bounds-objects-row c = omega (arith, c.requires.3, c.requires.4, c.from-row.ensures)
 
 pub returns-then-classes-class : goal.returns-then-classes-class
 unfolding object_sized owner_at
-returns-then-classes-class c = rw (← c.wide16-row.ensures.0) (sym (class-past _ _ _ _ (omega (arith, c.if-owner-eq0.false)) c.if-classes-class.true))
+returns-then-classes-class c = rw (← c.from-row.ensures) (sym (class-past _ _ _ _ (omega (arith, c.if-owner-eq0.false)) c.if-classes-class.true))
 
 pub bounds-sizes-wide32 : goal.bounds-sizes-wide32
 bounds-sizes-wide32 c = omega (arith, c.requires.0.0, c.requires.1, c.if-classes-class.false, c.wide32.ensures.0)
@@ -33,4 +33,4 @@ fields_fit-requires c = (omega (arith, c.requires.3, c.requires.4), c.requires.0
 
 pub returns : goal.returns
 unfolding object_sized owner_at
-returns c = c.fields_fit.ensures ∙ rw (c.wide32.ensures.0, ← c.wide16-row.ensures.0) (sym (row-fields _ _ _ _ (omega (arith, c.if-owner-eq0.false)) c.if-owner-gt-LAST_OWNER.false c.if-classes-class.false))
+returns c = c.fields_fit.ensures ∙ rw (c.wide32.ensures.0, ← c.from-row.ensures) (sym (row-fields _ _ _ _ (omega (arith, c.if-owner-eq0.false)) c.if-owner-gt-LAST_OWNER.false c.if-classes-class.false))

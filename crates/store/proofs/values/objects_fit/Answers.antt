@@ -11,10 +11,10 @@ use borrow.Author.Rules.{rules}
 use Rattle.store.proofs.values.objects_fit.Goals as goal
 
 pub loop-o-init : goal.loop-o-init
-loop-o-init c = (omega arith, rw (c.from16-made.ensures.0, c.at16-n.ensures, c.from16-classes.ensures.0, c.at16.ensures) (ap (all _) (rows_start _ _)))
+loop-o-init c = (omega arith, rw (c.from-made.ensures, c.at-n.ensures, c.from-classes.ensures, c.at.ensures) (ap (all _) (rows_start _ _)))
 
 pub object_fits-requires : goal.object_fits-requires
-object_fits-requires c = (c.requires.0, omega (arith, c.requires.1, c.from16-classes.ensures.0, c.at16.ensures), c.requires.2, c.requires.3, omega (arith, c.requires.4, c.at16-n.ensures, c.loop-o-test.true))
+object_fits-requires c = (c.requires.0, omega (arith, c.requires.1, c.from-classes.ensures, c.at.ensures), c.requires.2, c.requires.3, omega (arith, c.requires.4, c.at-n.ensures, c.loop-o-test.true))
 
 pub returns-then-not-object_fits : goal.returns-then-not-object_fits
 returns-then-not-object_fits c = sym (rows-hit _ _ _ _ c.loop-o-test.true (sym c.object_fits.ensures ∙ c.if-not-object_fits.true)) ∙ c.loop-o.invariant.1

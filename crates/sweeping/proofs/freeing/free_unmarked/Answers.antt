@@ -10,12 +10,12 @@ use Rattle.sweeping.proofs.Laws.{free-start, free-turn, keep-turn, free-end}
 use Rattle.sweeping.proofs.freeing.free_unmarked.Goals as goal
 
 pub loop-o-init : goal.loop-o-init
-loop-o-init c = (omega arith, omega arith, free-start _ _ _ _ _ c.at16-rows.ensures, refl)
+loop-o-init c = (omega arith, omega arith, free-start _ _ _ _ _ c.at-rows.ensures, refl)
 
 pub loop-o-preserved : goal.loop-o-preserved
 loop-o-preserved c =
     elim c.if-is_dead.branch [
-      | goal.then-is_dead w ↦ (omega (arith, c.loop-o-test.true), omega (arith, w.number-is, c.loop-o.invariant.1), rw (w.counts-is, w.number-is, w.put16.ensures, w.wide16.ensures.0) (free-turn _ _ _ _ _ c.loop-o-test.true (sym c.is_dead.ensures ∙ w.if-is_dead.true)) ∙ c.loop-o.invariant.2, ap length w.counts-is ∙ (w.put16.auto.t ∙ c.loop-o.invariant.3))
+      | goal.then-is_dead w ↦ (omega (arith, c.loop-o-test.true), omega (arith, w.number-is, c.loop-o.invariant.1), rw (w.counts-is, w.number-is, w.put.ensures, w.from.ensures) (free-turn _ _ _ _ _ c.loop-o-test.true (sym c.is_dead.ensures ∙ w.if-is_dead.true)) ∙ c.loop-o.invariant.2, ap length w.counts-is ∙ (w.put.auto.t ∙ c.loop-o.invariant.3))
       | goal.else-is_dead w ↦ (omega (arith, c.loop-o-test.true), omega (arith, w.number-is, c.loop-o.invariant.1), rw (w.counts-is, w.number-is) (keep-turn _ _ _ _ _ c.loop-o-test.true (sym c.is_dead.ensures ∙ w.if-is_dead.false)) ∙ c.loop-o.invariant.2, ap length w.counts-is ∙ c.loop-o.invariant.3)
     ]
 

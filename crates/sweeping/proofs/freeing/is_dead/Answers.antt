@@ -5,10 +5,10 @@ use Rattle.definition.specs.Tables.{owner_at}
 use Rattle.sweeping.proofs.Laws.{dead-free, dead-used}
 use Rattle.sweeping.proofs.freeing.is_dead.Goals as goal
 
-pub returns-then-at16-eq0 : goal.returns-then-at16-eq0
+pub returns-then-at-eq0 : goal.returns-then-at-eq0
 unfolding owner_at
-returns-then-at16-eq0 c = sym (dead-free _ _ _ (rw (← c.wide16-row.ensures.0, ← c.at16.ensures) c.if-at16-eq0.true))
+returns-then-at-eq0 c = sym (dead-free _ _ _ (rw (← c.from-row.ensures, ← c.at.ensures) c.if-at-eq0.true))
 
 pub returns : goal.returns
 unfolding owner_at
-returns c = rw (c.at8.ensures, c.wide16-row.ensures.0) (sym (dead-used _ _ _ (λ e. c.if-at16-eq0.false (c.at16.ensures ∙ rw c.wide16-row.ensures.0 e))))
+returns c = rw (c.at.ensures, c.from-row.ensures) (sym (dead-used _ _ _ (λ e. c.if-at-eq0.false (c.at.ensures ∙ rw c.from-row.ensures e))))

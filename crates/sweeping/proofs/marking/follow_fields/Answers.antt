@@ -13,7 +13,7 @@ loop-i-init c = (c.requires, refl, refl, refl)
 
 pub loop-i-preserved : goal.loop-i-preserved
 loop-i-preserved c =
-    (few-kept _ _ _ c.mark_fields-size.ensures c.loop-i.invariant.0, follow-turn _ _ _ _ c.loop-i-test.true (omega (arith, c.loop-i-test.true, c.loop-i.invariant.0)) (c.mark_fields-size.ensures ∙ rw (c.at32-o.ensures, c.wide16.ensures.0)) ∙ c.loop-i.invariant.1, c.mark_fields-size.auto.marks ∙ c.loop-i.invariant.2, c.mark_fields-size.auto.list ∙ c.loop-i.invariant.3)
+    (few-kept _ _ _ c.mark_fields-size.ensures c.loop-i.invariant.0, follow-turn _ _ _ _ c.loop-i-test.true (omega (arith, c.loop-i-test.true, c.loop-i.invariant.0)) (c.mark_fields-size.ensures ∙ rw (c.at-o.ensures, c.from.ensures)) ∙ c.loop-i.invariant.1, c.mark_fields-size.auto.marks ∙ c.loop-i.invariant.2, c.mark_fields-size.auto.list ∙ c.loop-i.invariant.3)
 
 pub returns : goal.returns
 returns c = sym (follow-end _ _ _ _ c.loop-i-test.false) ∙ c.loop-i.invariant.1

@@ -6,4 +6,4 @@ use Rattle.sweeping.proofs.marking.mark_fields.Goals as goal
 
 pub returns : goal.returns
 returns c =
-    c.mark_values.ensures ∙ fields-named _ _ _ _ _ _ c.wide32-row.ensures.0 (c.at8.ensures ∙ rw (c.wide32.ensures.0, c.at32-class.ensures, c.wide32-row.ensures.0))
+    c.mark_values.ensures ∙ fields-named _ _ _ _ _ _ c.wide32-row.ensures.0 (c.at.ensures ∙ rw (c.wide32.ensures.0, c.at-class.ensures, c.wide32-row.ensures.0))

@@ -6,4 +6,4 @@ use Rattle.sweeping.proofs.marking.mark_frame.Goals as goal
 
 pub returns : goal.returns
 returns c =
-    c.mark_values.ensures ∙ frame-named _ _ _ _ _ _ c.wide32-2.ensures.0 (c.at32-depth.ensures ∙ rw c.wide32.ensures.0) c.mark_operands-size.ensures
+    c.mark_values.ensures ∙ frame-named _ _ _ _ _ _ c.wide32-2.ensures.0 (c.at-depth.ensures ∙ rw c.wide32.ensures.0) c.mark_operands-size.ensures

@@ -4,13 +4,13 @@ use borrow.Author.Rules.{rules}
 use Rattle.sweeping.proofs.Laws.{mark-again, mark-full, mark-new}
 use Rattle.sweeping.proofs.marking.mark_object.Goals as goal
 
-pub returns-then-at8-ne0 : goal.returns-then-at8-ne0
-returns-then-at8-ne0 c = sym (mark-again _ _ (λ e. c.if-at8-ne0.true (c.at8.ensures ∙ (rw c.wide32-place.ensures.0 e))))
+pub returns-then-at-ne0 : goal.returns-then-at-ne0
+returns-then-at-ne0 c = sym (mark-again _ _ (λ e. c.if-at-ne0.true (c.at.ensures ∙ (rw c.wide32-place.ensures.0 e))))
 
 pub returns-then-n-ge-OBJECT_LIMIT : goal.returns-then-n-ge-OBJECT_LIMIT
-returns-then-n-ge-OBJECT_LIMIT c = sym (mark-full _ _ (rw (← c.wide32-place.ensures.0, ← c.at8.ensures) c.if-at8-ne0.false) c.if-n-ge-OBJECT_LIMIT.true)
+returns-then-n-ge-OBJECT_LIMIT c = sym (mark-full _ _ (rw (← c.wide32-place.ensures.0, ← c.at.ensures) c.if-at-ne0.false) c.if-n-ge-OBJECT_LIMIT.true)
 
 pub returns : goal.returns
 returns c =
-    rw (c.put8.ensures, c.put32.ensures, c.wide16.ensures.0, c.wide32-place.ensures.0)
-    (sym (mark-new _ _ (rw (← c.wide32-place.ensures.0, ← c.at8.ensures) c.if-at8-ne0.false) c.if-n-ge-OBJECT_LIMIT.false))
+    rw (c.put.ensures, c.put.ensures, c.from.ensures, c.wide32-place.ensures.0)
+    (sym (mark-new _ _ (rw (← c.wide32-place.ensures.0, ← c.at.ensures) c.if-at-ne0.false) c.if-n-ge-OBJECT_LIMIT.false))

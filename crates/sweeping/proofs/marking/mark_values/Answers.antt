@@ -16,7 +16,7 @@ loop-i-init c = (omega arith, values-start _ _ _, refl, refl)
 pub loop-i-preserved : goal.loop-i-preserved
 unfolding value_from
 loop-i-preserved c =
-    (omega arith, values-turn (value_from c.args.table.now c.args.first) _ _ _ c.mark_value-size.ensures _ _ c.loop-i-test.true (rw c.wide8.ensures.0) ∙ c.loop-i.invariant.1, c.mark_value-size.auto.marks ∙ c.loop-i.invariant.2, c.mark_value-size.auto.list ∙ c.loop-i.invariant.3)
+    (omega arith, values-turn (value_from c.args.table.now c.args.first) _ _ _ c.mark_value-size.ensures _ _ c.loop-i-test.true (rw c.from.ensures) ∙ c.loop-i.invariant.1, c.mark_value-size.auto.marks ∙ c.loop-i.invariant.2, c.mark_value-size.auto.list ∙ c.loop-i.invariant.3)
 
 pub returns : goal.returns
 returns c = sym (values-end _ _ _ _ c.loop-i-test.false) ∙ c.loop-i.invariant.1

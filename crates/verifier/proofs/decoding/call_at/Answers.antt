@@ -8,5 +8,5 @@ returns-then-count-gt-ARGUMENT_LIMIT c = call-above _ _ _ _ _ c.if-count-gt-ARGU
 pub returns : goal.returns
 returns c =
     call-read _ _ _ _ _ c.if-count-gt-ARGUMENT_LIMIT.false _ _ _ _ _ c.short_at-3.ensures c.short_at.ensures c.arguments_at.ensures
-    c.wide8.ensures.0
+    c.from.ensures
     c.short_at-2.ensures

@@ -13,13 +13,13 @@ pub returns-then-code-p-2 : goal.returns-then-code-p-2
 unfolding reading_of
 returns-then-code-p-2 c =
     rw
-    (decode-cut _ _ _ _ _ (c.opcode_of-o.ensures ∙ ap (opcode_of _) c.at8.ensures)
+    (decode-cut _ _ _ _ _ (c.opcode_of-o.ensures ∙ ap (opcode_of _) c.at.ensures)
     c.inline_length-n.ensures c.if-code-p.false c.if-code-p-2.true)
 
 pub returns : goal.returns
 returns c =
     rw (
       c.instruction_of.ensures,
-      decode-whole _ _ _ _ _ (c.opcode_of-o.ensures ∙ ap (opcode_of _) c.at8.ensures)
+      decode-whole _ _ _ _ _ (c.opcode_of-o.ensures ∙ ap (opcode_of _) c.at.ensures)
           c.inline_length-n.ensures c.if-code-p.false c.if-code-p-2.false,
     )

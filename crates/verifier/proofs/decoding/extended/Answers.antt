@@ -5,7 +5,7 @@ use Rattle.verifier.proofs.DecodingLaws.{extend-low, extend-high}
 use Rattle.verifier.proofs.decoding.extended.Goals as goal
 
 pub returns-then-wide-lt32768 : goal.returns-then-wide-lt32768
-returns-then-wide-lt32768 c = sym (ap extend (sym c.from16-wide.ensures.0) ∙ extend-low _ c.if-wide-lt32768.true)
+returns-then-wide-lt32768 c = sym (ap extend (sym c.from-wide.ensures) ∙ extend-low _ c.if-wide-lt32768.true)
 
 pub returns-else-wide-lt32768 : goal.returns-else-wide-lt32768
-returns-else-wide-lt32768 c = sym (ap extend (sym c.from16-wide.ensures.0) ∙ extend-high _ c.if-wide-lt32768.false)
+returns-else-wide-lt32768 c = sym (ap extend (sym c.from-wide.ensures) ∙ extend-high _ c.if-wide-lt32768.false)

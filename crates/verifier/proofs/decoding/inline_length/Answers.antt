@@ -33,7 +33,7 @@ pub returns-in-OpInvokevirtual : goal.returns-in-OpInvokevirtual
 returns-in-OpInvokevirtual c = unfold inline_length in rw c.in-OpInvokevirtual.is
 
 pub returns-in-OpInvokevirtualList : goal.returns-in-OpInvokevirtualList
-returns-in-OpInvokevirtualList c = unfold inline_length in rw (c.in-OpInvokevirtualList.is, c.wide8.ensures.0, c.list_count.ensures)
+returns-in-OpInvokevirtualList c = unfold inline_length in rw (c.in-OpInvokevirtualList.is, c.from.ensures, c.list_count.ensures)
 
 pub returns-in-OpNew : goal.returns-in-OpNew
 returns-in-OpNew c = unfold inline_length in rw c.in-OpNew.is

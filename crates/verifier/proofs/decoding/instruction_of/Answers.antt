@@ -11,10 +11,10 @@ pub returns-in-OpSipush : goal.returns-in-OpSipush
 returns-in-OpSipush c = unfold reading_of sized_as instruction_of in rw (c.in-OpSipush.is, c.extended.ensures, c.short_at.ensures)
 
 pub returns-in-OpLoad : goal.returns-in-OpLoad
-returns-in-OpLoad c = unfold reading_of sized_as instruction_of in rw (c.in-OpLoad.is, c.at8.ensures)
+returns-in-OpLoad c = unfold reading_of sized_as instruction_of in rw (c.in-OpLoad.is, c.at.ensures)
 
 pub returns-in-OpStore : goal.returns-in-OpStore
-returns-in-OpStore c = unfold reading_of sized_as instruction_of in rw (c.in-OpStore.is, c.at8-in-OpStore.ensures)
+returns-in-OpStore c = unfold reading_of sized_as instruction_of in rw (c.in-OpStore.is, c.at-in-OpStore.ensures)
 
 pub returns-in-OpPop : goal.returns-in-OpPop
 returns-in-OpPop c = unfold reading_of sized_as instruction_of in rw c.in-OpPop.is

@@ -22,17 +22,17 @@ pub returns-then-types-n : goal.returns-then-types-n
 unfolding outcome_of going
 returns-then-types-n c =
     rw (call-few c.args.types c.args.c c.args.s c.if-c-lt-NAME_OBJECT.false (sym c.is_named.ensures ∙ c.if-not-is_named.false)
-    (omega (arith, c.if-types-n.true, c.wide8-n.ensures.0, c.argument_count.ensures)))
+    (omega (arith, c.if-types-n.true, c.from-n.ensures, c.argument_count.ensures)))
 
 pub returns-then-not-are_met : goal.returns-then-not-are_met
 unfolding outcome_of going
 returns-then-not-are_met c =
     let args = c.args in
     rw (call-unmet args.types args.c args.s c.if-c-lt-NAME_OBJECT.false (sym c.is_named.ensures ∙ c.if-not-is_named.false) _ _ _
-    (c.wide8-n.ensures.0 ∙ c.argument_count.ensures) c.if-types-n.false refl c.are_met.ensures c.if-not-are_met.true)
+    (c.from-n.ensures ∙ c.argument_count.ensures) c.if-types-n.false refl c.are_met.ensures c.if-not-are_met.true)
 
 pub returns : goal.returns
 returns c =
     call_met _ _ _ c.if-c-lt-NAME_OBJECT.false (sym c.is_named.ensures ∙ c.if-not-is_named.false) _ _ _
-    (c.wide8-n.ensures.0 ∙ c.argument_count.ensures) c.if-types-n.false refl c.are_met.ensures c.if-not-are_met.false
+    (c.from-n.ensures ∙ c.argument_count.ensures) c.if-types-n.false refl c.are_met.ensures c.if-not-are_met.false
     _ _ _ c.operand.ensures c.meet_class-receiver.ensures c.type_of_name.ensures.0

@@ -19,6 +19,6 @@ returns c =
     rw (
       c.push.ensures,
       le-leb 2 c.args.c c.if-c-lt-NAME_OBJECT.false,
-      type-name _ c.from16.ensures.1,
-      c.from16.ensures.0,
+      type-name _ c.from.ensures.1,
+      c.from.ensures,
     )

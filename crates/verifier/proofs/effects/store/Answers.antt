@@ -28,7 +28,7 @@ returns-then-place-ge-LOCALS c =
     rw (
       popped-top _ _ _ c.pop.ensures c.in-Top.is,
       of-kind _ _ _ c.of_kind.ensures (ap not c.if-not-of_kind.false),
-      ← c.wide8-place.ensures.0,
+      ← c.from-place.ensures,
       local-past _ _ c.if-place-ge-LOCALS.true,
     )
 
@@ -39,7 +39,7 @@ returns c =
       popped-top _ _ _ c.pop.ensures
           c.in-Top.is,
       of-kind _ _ _ c.of_kind.ensures (ap not c.if-not-of_kind.false),
-      ← c.wide8-place.ensures.0,
+      ← c.from-place.ensures,
       local-at _ _ c.if-place-ge-LOCALS.false,
       c.stored.ensures,
     )

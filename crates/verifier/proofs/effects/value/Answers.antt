@@ -14,4 +14,4 @@ returns-then-d-ge-OPERANDS c =
     sym (get_or-eq_default args.types.operands 0 past)
 
 pub returns : goal.returns
-returns c = c.operand.ensures ∙ ap (λ (k : ℕ). get_or c.args.types.operands (c.args.d + 1 + k) 0) c.wide8.ensures.0
+returns c = c.operand.ensures ∙ ap (λ (k : ℕ). get_or c.args.types.operands (c.args.d + 1 + k) 0) c.from.ensures

@@ -6,4 +6,4 @@ use Rattle.verifier.proofs.flows.is_fitting.Goals as goal
 
 pub returns : goal.returns
 unfolding fits map_of
-returns c = rw (c.wide8.ensures.0, c.map_depth.ensures, rows-length (type_at _ _) (map_depth _ _) 0)
+returns c = rw (c.from.ensures, c.map_depth.ensures, rows-length (type_at _ _) (map_depth _ _) 0)

@@ -12,16 +12,16 @@ pub loop-i-init : goal.loop-i-init
 loop-i-init c = (omega arith, refl, λ j h. absurd (omega arith))
 
 pub offset_bounds-operands-at : goal.offset_bounds-operands-at
-offset_bounds-operands-at c = omega (arith, c.wide8-at.ensures.0, c.loop-i-test.true, c.requires)
+offset_bounds-operands-at c = omega (arith, c.from-at.ensures, c.loop-i-test.true, c.requires)
 
 pub bounds-operands-at : goal.bounds-operands-at
-bounds-operands-at c = omega (arith, c.wide8-at.ensures.0, c.loop-i-test.true, c.requires, c.loop-i.invariant.1)
+bounds-operands-at c = omega (arith, c.from-at.ensures, c.loop-i-test.true, c.requires, c.loop-i.invariant.1)
 
 pub loop-i-preserved : goal.loop-i-preserved
 loop-i-preserved c = (
   omega arith,
-  length-set c.loop-i.operands c.wide8-at.result c.type_of_name-t.result ∙ c.loop-i.invariant.1,
-  operand-set c.loop-i.operands c.loop-i.i c.wide8-at.result c.type_of_name-t.result (λ (j : ℕ). type_of_name (type_at _ _ j)) c.wide8-at.ensures.0 (omega (arith, c.loop-i.invariant.1, c.loop-i-test.true, c.requires)) (c.type_of_name-t.ensures.0 ∙ ap type_of_name c.map_operand.ensures) c.loop-i.invariant.2,
+  length-set c.loop-i.operands c.from-at.result c.type_of_name-t.result ∙ c.loop-i.invariant.1,
+  operand-set c.loop-i.operands c.loop-i.i c.from-at.result c.type_of_name-t.result (λ (j : ℕ). type_of_name (type_at _ _ j)) c.from-at.ensures (omega (arith, c.loop-i.invariant.1, c.loop-i-test.true, c.requires)) (c.type_of_name-t.ensures.0 ∙ ap type_of_name c.map_operand.ensures) c.loop-i.invariant.2,
 )
 
 pub returns : goal.returns

@@ -9,4 +9,4 @@ mapped_operands-operands-requires c = omega (arith, c.map_depth-n.ensures, c.req
 
 pub returns : goal.returns
 unfolding types_of
-returns c = rw (c.wide8-depth.ensures.0, c.map_depth-n.ensures, c.mapped_locals-locals.ensures, operands-mapped c.mapped_operands-operands.result c.args.maps.now c.args.place (λ j h. c.mapped_operands-operands.ensures j (omega (arith, h, c.map_depth-n.ensures))))
+returns c = rw (c.from-depth.ensures, c.map_depth-n.ensures, c.mapped_locals-locals.ensures, operands-mapped c.mapped_operands-operands.result c.args.maps.now c.args.place (λ j h. c.mapped_operands-operands.ensures j (omega (arith, h, c.map_depth-n.ensures))))

@@ -5,8 +5,8 @@ use Rattle.verifier.proofs.flows.meet_place.Goals as goal
 
 pub returns-in-Locals : goal.returns-in-Locals
 unfolding meet_at local_at
-returns-in-Locals c = rw c.in-Locals.is (rw (c.map_local.ensures, c.at32-t.ensures, c.wide8.ensures.0) at c.meet_local.ensures)
+returns-in-Locals c = rw c.in-Locals.is (rw (c.map_local.ensures, c.at-t.ensures, c.from.ensures) at c.meet_local.ensures)
 
 pub returns-in-Operands : goal.returns-in-Operands
 unfolding meet_at operand_at
-returns-in-Operands c = rw c.in-Operands.is (rw (c.map_operand.ensures, c.at32-t.ensures, c.wide8.ensures.0) at c.meet_name.ensures)
+returns-in-Operands c = rw c.in-Operands.is (rw (c.map_operand.ensures, c.at-t.ensures, c.from.ensures) at c.meet_name.ensures)

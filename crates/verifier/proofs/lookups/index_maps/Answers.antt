@@ -15,7 +15,7 @@ unfolding map_of
 loop-i-preserved c =
     let at = c.loop-i in
     let put = c.put_place.ensures in
-    let there = sym (c.wide16-q.ensures.0 ∙ c.map_offset.ensures) in (
+    let there = sym (c.from-q.ensures ∙ c.map_offset.ensures) in (
       at.invariant.0,
       omega arith,
       omega arith,

@@ -9,7 +9,7 @@ pub returns-in-To : goal.returns-in-To
 unfolding target_of to_list
 returns-in-To c =
     let t = sym c.target_of-t.ensures ∙ ap target_of c.in-To.is in
-    rw t (any-one _ _ _ (rw c.wide16.ensures.0 at c.is_bare.ensures))
+    rw t (any-one _ _ _ (rw c.from.ensures at c.is_bare.ensures))
 
 pub returns-in-Nowhere : goal.returns-in-Nowhere
 unfolding target_of any to_list

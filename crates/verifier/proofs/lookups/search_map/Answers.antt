@@ -11,18 +11,18 @@ pub loop-i-init : goal.loop-i-init
 unfolding map_place
 loop-i-init c = (omega arith, omega arith, omega arith, omega arith, found-start _ _ _ c.map_count-n.ensures)
 
-pub returns-then-wide16-q : goal.returns-then-wide16-q
+pub returns-then-from-q : goal.returns-then-from-q
 unfolding map_of
-returns-then-wide16-q c =
+returns-then-from-q c =
     let at = c.loop-i in
-    let same = rw (c.wide16.ensures.0, c.map_offset.ensures) at c.if-wide16-q.true in
+    let same = rw (c.from.ensures, c.map_offset.ensures) at c.if-from-q.true in
     found_here _ _ _ _ _ at.invariant.2 c.loop-i-test.true at.invariant.1 same ∙ at.invariant.4
 
 pub loop-i-preserved : goal.loop-i-preserved
 unfolding map_of
 loop-i-preserved c =
     let at = c.loop-i in
-    let other = rw (c.wide16.ensures.0, c.map_offset.ensures) at c.if-wide16-q.false in (
+    let other = rw (c.from.ensures, c.map_offset.ensures) at c.if-from-q.false in (
       omega arith,
       omega arith,
       map_next _ _ _ _ at.invariant.2 c.map_size-place.ensures.0,

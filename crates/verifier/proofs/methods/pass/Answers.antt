@@ -26,16 +26,16 @@ pub returns-then-offset-p : goal.returns-then-offset-p
 unfolding Passes
 returns-then-offset-p c =
     λ v b a r. (
-      pass-at v b a r _ _ _ (omega (arith, c.map_count.ensures, c.if-map_count-i.false)) (offset-is _ _ _ _ c.requires.0 (c.wide16-offset.ensures.0 ∙ c.map_offset.ensures) ∙ c.if-offset-p.true),
+      pass-at v b a r _ _ _ (omega (arith, c.map_count.ensures, c.if-map_count-i.false)) (offset-is _ _ _ _ c.requires.0 (c.from-offset.ensures ∙ c.map_offset.ensures) ∙ c.if-offset-p.true),
       (map_next _ _ _ _ c.requires.0 c.map_size.ensures.0, omega (arith, c.requires.1, c.map_size.ensures.1)),
     )
 
 pub returns-then-offset-p-2 : goal.returns-then-offset-p-2
 unfolding Passes
 returns-then-offset-p-2 c =
-    λ v b a r. pass-inside v b a r _ _ _ (omega (arith, c.map_count.ensures, c.if-map_count-i.false)) (omega (arith, offset-is _ _ _ _ c.requires.0 (c.wide16-offset.ensures.0 ∙ c.map_offset.ensures), c.if-offset-p-2.true))
+    λ v b a r. pass-inside v b a r _ _ _ (omega (arith, c.map_count.ensures, c.if-map_count-i.false)) (omega (arith, offset-is _ _ _ _ c.requires.0 (c.from-offset.ensures ∙ c.map_offset.ensures), c.if-offset-p-2.true))
 
 pub returns-else-offset-p-2 : goal.returns-else-offset-p-2
 unfolding Passes
 returns-else-offset-p-2 c =
-    λ v b a r. (pass-before v b a r _ _ _ (omega (arith, c.map_count.ensures, c.if-map_count-i.false)) (omega (arith, offset-is _ _ _ _ c.requires.0 (c.wide16-offset.ensures.0 ∙ c.map_offset.ensures), c.if-offset-p.false, c.if-offset-p-2.false)), c.requires)
+    λ v b a r. (pass-before v b a r _ _ _ (omega (arith, c.map_count.ensures, c.if-map_count-i.false)) (omega (arith, offset-is _ _ _ _ c.requires.0 (c.from-offset.ensures ∙ c.map_offset.ensures), c.if-offset-p.false, c.if-offset-p-2.false)), c.requires)

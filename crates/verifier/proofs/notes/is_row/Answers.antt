@@ -12,4 +12,4 @@ pub returns-then-subtypes-end : goal.returns-then-subtypes-end
 returns-then-subtypes-end c = λ h. absurd (false≢true h)
 
 pub returns : goal.returns
-returns c = λ h. sym (row-alone (subtype_is c.args.loader (note c.args.low c.args.high)) c.args.subtypes.now c.args.i (c.wide16-start.result * 3) (c.wide16-start.result * 3 + 3 - c.wide16-start.result * 3) (ap (λ (x : ℕ). x * 3) c.wide16-start.ensures.0) (omega arith)) ∙ sym c.subtype_known.ensures ∙ h
+returns c = λ h. sym (row-alone (subtype_is c.args.loader (note c.args.low c.args.high)) c.args.subtypes.now c.args.i (c.from-start.result * 3) (c.from-start.result * 3 + 3 - c.from-start.result * 3) (ap (λ (x : ℕ). x * 3) c.from-start.ensures) (omega arith)) ∙ sym c.subtype_known.ensures ∙ h

@@ -10,7 +10,7 @@ use Rattle.verifier.proofs.turns.flow_to_target.Goals as goal
 pub returns-then-place-eq0 : goal.returns-then-place-eq0
 unfolding posting post_notes
 returns-then-place-eq0 c =
-    λ n. rw (c.unmet.ensures.0, c.unmet.ensures.1, target-bare _ n _ _ c.find_map-place.ensures c.if-place-eq0.true _ _ _ c.in-To.is c.wide16.ensures.0) refl
+    λ n. rw (c.unmet.ensures.0, c.unmet.ensures.1, target-bare _ n _ _ c.find_map-place.ensures c.if-place-eq0.true _ _ _ c.in-To.is c.from.ensures) refl
 
 pub returns-in-Nowhere : goal.returns-in-Nowhere
 unfolding target_of target_trace posting post_notes
@@ -19,5 +19,5 @@ returns-in-Nowhere c = λ n. rw c.in-Nowhere.is refl
 pub returns-else-place-eq0 : goal.returns-else-place-eq0
 returns-else-place-eq0 c =
     λ n. posting-same _ _ _ _ _
-    (target-mapped _ n _ _ c.find_map-place.ensures c.if-place-eq0.false _ _ _ c.in-To.is c.wide16.ensures.0)
+    (target-mapped _ n _ _ c.find_map-place.ensures c.if-place-eq0.false _ _ _ c.in-To.is c.from.ensures)
     c.meet_map.ensures

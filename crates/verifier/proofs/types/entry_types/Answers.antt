@@ -4,5 +4,5 @@ use Rattle.verifier.proofs.types.entry_types.Goals as goal
 
 pub returns : goal.returns
 returns c =
-    entry-is _ _ _ _ _ _ _ _ c.from16-first.ensures.0 c.from16-first.ensures.1 c.argument_local-second.ensures
+    entry-is _ _ _ _ _ _ _ _ c.from-first.ensures c.from-first.ensures.1 c.argument_local-second.ensures
     c.argument_local-third.ensures c.argument_local-fourth.ensures c.argument_local-fifth.ensures
