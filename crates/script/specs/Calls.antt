@@ -8,13 +8,13 @@ use Rattle.definition.specs.Maybe.{◌>>=◌, need}
 use Rattle.definition.specs.Calls.{call_define, call_record, call_start, call_step, call_drop}
 use Rattle.definition.specs.Script.{Line, line, digit, digits, decimal, up_to, short, int, hex_digit, file, fields, grow, command}
 use Rattle.script.specs.Commands.{decoded, file_onto}
-use Rattle.script.specs.Parts.{Space, At, Nowhere, space_from, short_is, Head, Field, NoField, head_read, head_in, head_of, space-cut, space-none}
+use Rattle.script.specs.Parts.{space_from, Head, head_read, head_in, head_of, space-cut, space-none}
 use Rattle.script.specs.Numbers.{bind-none}
 use Rattle.script.specs.Files.{is_hex, hex_value, value_in, pairs-bad}
 
-unfoldable pub with_head : Head → List ℕ → (ℕ → List ℕ → Option Line) → Option Line
-with_head NoField s f = none
-with_head (Field n a) s f = f n (drop a s)
+unfoldable pub with_head : Option Head → List ℕ → (ℕ → List ℕ → Option Line) → Option Line
+with_head none s f = none
+with_head (some h) s f = f h.number (drop h.rest s)
 
 unfoldable pub drop_line : List ℕ → Option Line
 drop_line s = short s >>= λ k. line 88 (call_drop k)
@@ -39,22 +39,22 @@ single_line b = need (eqb b 78) >>= λ _. line b call_step
 
 -- A field with a space is no number and no file
 
-digits-spaced : (s : List ℕ) (n i j : ℕ) → space_from i s ≡ At j → digits n s ≡ none
+digits-spaced : (s : List ℕ) (n i j : ℕ) → space_from i s ≡ some j → digits n s ≡ none
 unfolding space_from digits digit ◌>>=◌ need
 digits-spaced [] n i j e = let z : ◌≡◌ {A = ℕ} 0 1 = cc in absurd (omega arith)
 digits-spaced (b ∷ bs) n i j e = step (eqb b 32) refl e (λ d h. digits-spaced bs (n * 10 + d) (suc i) j h)
   where
-    step : (t : Bool) → eqb b 32 ≡ t → elim t as (λ _. Space) [ true ↦ At i | false ↦ space_from (suc i) bs ] ≡ At j
-        → ((d : ℕ) → space_from (suc i) bs ≡ At j → digits (n * 10 + d) bs ≡ none) → (digit b >>= λ d. digits (n * 10 + d) bs) ≡ none
+    step : (t : Bool) → eqb b 32 ≡ t → elim t as (λ _. Option ℕ) [ true ↦ some i | false ↦ space_from (suc i) bs ] ≡ some j
+        → ((d : ℕ) → space_from (suc i) bs ≡ some j → digits (n * 10 + d) bs ≡ none) → (digit b >>= λ d. digits (n * 10 + d) bs) ≡ none
     step true q e r = rw (eqb-true b 32 q)
     step false q e r = bind-none (digit b) _ (λ d. r d e)
 
-up_to-spaced : (m : ℕ) (s : List ℕ) (i j : ℕ) → space_from i s ≡ At j → up_to m s ≡ none
+up_to-spaced : (m : ℕ) (s : List ℕ) (i j : ℕ) → space_from i s ≡ some j → up_to m s ≡ none
 unfolding up_to decimal ◌>>=◌
 up_to-spaced m [] i j e = refl
 up_to-spaced m (b ∷ bs) i j e = rw (digits-spaced (b ∷ bs) 0 i j e)
 
-int-spaced : (s : List ℕ) (i j : ℕ) → space_from i s ≡ At j → int s ≡ none
+int-spaced : (s : List ℕ) (i j : ℕ) → space_from i s ≡ some j → int s ≡ none
 unfolding int space_from ◌>>=◌
 int-spaced [] i j e = refl
 int-spaced (b ∷ bs) i j e = step (eqb b 45) refl
@@ -62,11 +62,11 @@ int-spaced (b ∷ bs) i j e = step (eqb b 45) refl
     step : (t : Bool) → eqb b 45 ≡ t
         → ◌≡◌ {A = Option ℕ} (elim t as (λ _. Option ℕ) [ true ↦ up_to 2147483648 bs >>= λ n. some ((4294967296 - n) % 4294967296) | false ↦ up_to 2147483647 (b ∷ bs) ]) none
     step true q =
-        let later : space_from (suc i) bs ≡ At j = subst (λ (k : ℕ). space_from i (k ∷ bs) ≡ At j) (eqb-true b 45 q) e in
+        let later : space_from (suc i) bs ≡ some j = subst (λ (k : ℕ). space_from i (k ∷ bs) ≡ some j) (eqb-true b 45 q) e in
         rw (up_to-spaced 2147483648 bs (suc i) j later)
     step false q = up_to-spaced 2147483647 (b ∷ bs) i j e
 
-hexes-spaced : (s : List ℕ) (i j : ℕ) → space_from i s ≡ At j → all is_hex s ≡ false
+hexes-spaced : (s : List ℕ) (i j : ℕ) → space_from i s ≡ some j → all is_hex s ≡ false
 unfolding space_from all is_hex hex_value value_in hex_digit ◌>>=◌ need
 hexes-spaced [] i j e = let z : ◌≡◌ {A = ℕ} 0 1 = cc in absurd (omega arith)
 hexes-spaced (b ∷ bs) i j e = step (eqb b 32) refl e (hexes-spaced bs (suc i) j)
@@ -75,12 +75,12 @@ hexes-spaced (b ∷ bs) i j e = step (eqb b 32) refl e (hexes-spaced bs (suc i) 
     after true h = h
     after false h = refl
 
-    step : (t : Bool) → eqb b 32 ≡ t → elim t as (λ _. Space) [ true ↦ At i | false ↦ space_from (suc i) bs ] ≡ At j
-        → (space_from (suc i) bs ≡ At j → all is_hex bs ≡ false) → all is_hex (b ∷ bs) ≡ false
+    step : (t : Bool) → eqb b 32 ≡ t → elim t as (λ _. Option ℕ) [ true ↦ some i | false ↦ space_from (suc i) bs ] ≡ some j
+        → (space_from (suc i) bs ≡ some j → all is_hex bs ≡ false) → all is_hex (b ∷ bs) ≡ false
     step true q e r = rw (eqb-true b 32 q)
     step false q e r = after (is_hex b) (r e)
 
-file-spaced : (s : List ℕ) (i j : ℕ) → space_from i s ≡ At j → file s ≡ none
+file-spaced : (s : List ℕ) (i j : ℕ) → space_from i s ≡ some j → file s ≡ none
 unfolding file
 file-spaced [] i j e = refl
 file-spaced (b ∷ bs) i j e = pairs-bad (b ∷ bs) (hexes-spaced (b ∷ bs) i j e)
@@ -156,34 +156,34 @@ fields-some P h (b ∷ bs) = step (eqb b 32)
 module _ (f : Reader) (g : ℕ → Reader) (alone : (x : List ℕ) → f (x ∷ []) ≡ none)
     (first : (x y : List ℕ) (ys : List (List ℕ)) → f (x ∷ y ∷ ys) ≡ (short x >>= λ n. g n (y ∷ ys))) where
   headed : (s : List ℕ) → f (fields s) ≡ with_head (head_of s) s (λ n t. g n (fields t))
-  unfolding head_of head_in head_read short_is with_head ◌>>=◌
+  unfolding head_of head_in head_read with_head ◌>>=◌
   headed s = step (space_from 0 s) refl
     where
-      read : (o : Option ℕ) (i : ℕ) → (o >>= λ n. g n (fields (drop (i + 1) s))) ≡ with_head (head_read (short_is o) (i + 1)) s (λ n t. g n (fields t))
+      read : (o : Option ℕ) (i : ℕ) → (o >>= λ n. g n (fields (drop (i + 1) s))) ≡ with_head (head_read o (i + 1)) s (λ n t. g n (fields t))
       read none i = refl
       read (some n) i = refl
 
-      step : (p : Space) → space_from 0 s ≡ p → f (fields s) ≡ with_head (head_in s p) s (λ n t. g n (fields t))
-      step Nowhere q = rw (space-none s 0 q) (alone s)
-      step (At i) q =
+      step : (p : Option ℕ) → space_from 0 s ≡ p → f (fields s) ≡ with_head (head_in s p) s (λ n t. g n (fields t))
+      step none q = rw (space-none s 0 q) (alone s)
+      step (some i) q =
           let whole : i - 0 ≡ i = omega arith in
           let cut : fields s ≡ take i s ∷ fields (drop (i + 1) s) = rw (← whole, add-one) (space-cut s 0 i q).parts in
           rw cut (fields-some (λ fs. f (take i s ∷ fs) ≡ (short (take i s) >>= λ n. g n fs)) (λ y ys. first (take i s) y ys) (drop (i + 1) s) ∙ read (short (take i s)) i)
 
 -- the last of several
-module _ (f : List ℕ → Option Line) (spaced : (s : List ℕ) (i j : ℕ) → space_from i s ≡ At j → f s ≡ none) where
+module _ (f : List ℕ → Option Line) (spaced : (s : List ℕ) (i j : ℕ) → space_from i s ≡ some j → f s ≡ none) where
   last : (s : List ℕ) → one f (fields s) ≡ f s
   unfolding one
   last s = step (space_from 0 s) refl
     where
-      step : (p : Space) → space_from 0 s ≡ p → one f (fields s) ≡ f s
-      step Nowhere q = rw (space-none s 0 q)
-      step (At i) q = rw (space-cut s 0 i q).parts (fields-some (λ fs. one f (take (i - 0) s ∷ fs) ≡ none) (λ y ys. refl) (drop (suc (i - 0)) s)) ∙ sym (spaced s 0 i q)
+      step : (p : Option ℕ) → space_from 0 s ≡ p → one f (fields s) ≡ f s
+      step none q = rw (space-none s 0 q)
+      step (some i) q = rw (space-cut s 0 i q).parts (fields-some (λ fs. one f (take (i - 0) s ∷ fs) ≡ none) (λ y ys. refl) (drop (suc (i - 0)) s)) ∙ sym (spaced s 0 i q)
 
-with_head-same : (h : Head) (s : List ℕ) (f g : ℕ → List ℕ → Option Line) → ((n : ℕ) (t : List ℕ) → f n t ≡ g n t) → with_head h s f ≡ with_head h s g
+with_head-same : (h : Option Head) (s : List ℕ) (f g : ℕ → List ℕ → Option Line) → ((n : ℕ) (t : List ℕ) → f n t ≡ g n t) → with_head h s f ≡ with_head h s g
 unfolding with_head
-with_head-same NoField s f g e = refl
-with_head-same (Field n a) s f g e = e n (drop a s)
+with_head-same none s f g e = refl
+with_head-same (some h) s f g e = e h.number (drop h.rest s)
 
 -- Calls
 
@@ -297,10 +297,10 @@ no_line b s d r t x = fields-some (λ fs. command b fs ≡ none) none_read s
 abbrev Keeps : Option Line → Type 0
 Keeps o = (t : List ℕ) → decoded o t ≡ t
 
-head-keeps : (h : Head) (s : List ℕ) (f : ℕ → List ℕ → Option Line) → ((n : ℕ) (u : List ℕ) → Keeps (f n u)) → Keeps (with_head h s f)
+head-keeps : (h : Option Head) (s : List ℕ) (f : ℕ → List ℕ → Option Line) → ((n : ℕ) (u : List ℕ) → Keeps (f n u)) → Keeps (with_head h s f)
 unfolding with_head decoded
-head-keeps NoField s f k t = refl
-head-keeps (Field n a) s f k t = k n (drop a s) t
+head-keeps none s f k t = refl
+head-keeps (some h) s f k t = k h.number (drop h.rest s) t
 
 then_keeps : {A : Type 0} (o : Option A) (f : A → Option Line) → ((a : A) → Keeps (f a)) → Keeps (o >>= f)
 unfolding ◌>>=◌ decoded

@@ -9,12 +9,6 @@ use Rattle.std.proofs.Math.Dec.{leb}
 use borrow.Author.Tests.{le-leb, lt-leb, leb-true, leb-false, eq-eqb, ne_eqb}
 use Rattle.definition.specs.Maybe.{◌>>=◌, need}
 use Rattle.definition.specs.Script.{digit, digits, decimal, up_to, int}
-pub use Rattle.script.specs.declared.Number.{Number}
-pub use Rattle.script.specs.declared.Number.TheVariants.{Value, NoNumber}
-
-unfoldable pub number_is : Option ℕ → Number
-number_is none = NoNumber
-number_is (some n) = Value n
 
 -- at most m
 unfoldable pub at_most : ℕ → ℕ → Option ℕ
@@ -28,27 +22,12 @@ extended m n b = digit b >>= λ d. at_most m (n * 10 + d)
 unfoldable pub bounded : ℕ → ℕ → List ℕ → Option ℕ
 bounded m n bs = digits n bs >>= at_most m
 
--- the bits of an int's negative
-unfoldable pub negated : Number → Number
-negated NoNumber = NoNumber
-negated (Value n) = Value ((4294967296 - n) % 4294967296)
-
 -- Laws
 
 pub bind-none : {A B : Type 0} (o : Option A) (f : A → Option B) → ((a : A) → f a ≡ none) → (o >>= f) ≡ none
 unfolding ◌>>=◌
 bind-none none f h = refl
 bind-none (some a) f h = h a
-
-pub number-some : (o : Option ℕ) (n : ℕ) → number_is o ≡ Value n → o ≡ some n
-unfolding number_is
-number-some none n e = let z : ◌≡◌ {A = ℕ} 0 1 = cc in absurd (omega arith)
-number-some (some m) n e = cc
-
-pub number-none : (o : Option ℕ) → number_is o ≡ NoNumber → o ≡ none
-unfolding number_is
-number-none none e = refl
-number-none (some m) e = let z : ◌≡◌ {A = ℕ} 0 1 = cc in absurd (omega arith)
 
 module _ (m : ℕ) where
   at_most-yes : (n : ℕ) → n ≤ m → at_most m n ≡ some n
@@ -164,14 +143,9 @@ negative : (b : ℕ) (bs : List ℕ) → b ≡ 45 → int (b ∷ bs) ≡ (up_to 
 unfolding int
 negative b bs e = rw (eq-eqb b 45 e, int)
 
-pub int-minus : (s : List ℕ) → get_or s 0 0 ≡ 45 → number_is (int s) ≡ negated (number_is (up_to 2147483648 (drop 1 s)))
-unfolding ◌>>=◌ number_is negated
+pub int-minus : (s : List ℕ) → get_or s 0 0 ≡ 45 → int s ≡ (up_to 2147483648 (drop 1 s) >>= λ n. some ((4294967296 - n) % 4294967296))
 int-minus [] e = absurd (omega arith)
-int-minus (b ∷ bs) e = ap number_is (negative b bs e) ∙ signed (up_to 2147483648 bs)
-  where
-    signed : (o : Option ℕ) → number_is (o >>= λ n. some ((4294967296 - n) % 4294967296)) ≡ negated (number_is o)
-    signed none = refl
-    signed (some n) = refl
+int-minus (b ∷ bs) e = negative b bs e
 
 pub int-plain : (s : List ℕ) → get_or s 0 0 ≢ 45 → int s ≡ up_to 2147483647 s
 unfolding int up_to decimal ◌>>=◌

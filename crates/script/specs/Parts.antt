@@ -4,32 +4,23 @@ use Rattle.std.proofs.Math.Option.{Option, none, some}
 use Rattle.std.proofs.Common.{arith, add-one, drop_of_length-le, drop-cons}
 use borrow.Author.Tests.{eq-eqb, ne_eqb}
 use Rattle.definition.specs.Script.{short, fields, grow}
-pub use Rattle.script.specs.declared.Space.{Space}
-pub use Rattle.script.specs.declared.Space.TheVariants.{At, Nowhere}
-pub use Rattle.script.specs.declared.Short.{Short}
-pub use Rattle.script.specs.declared.Short.TheVariants.{Name, NoShort}
 pub use Rattle.script.specs.declared.Head.{Head}
-pub use Rattle.script.specs.declared.Head.TheVariants.{Field, NoField}
 
 -- the first space of a list whose first byte is at place i
-unfoldable pub space_from : ℕ → List ℕ → Space
-space_from i [] = Nowhere
-space_from i (b ∷ bs) = elim (eqb b 32) [ true ↦ At i | false ↦ space_from (suc i) bs ]
-
-unfoldable pub short_is : Option ℕ → Short
-short_is none = NoShort
-short_is (some n) = Name n
+unfoldable pub space_from : ℕ → List ℕ → Option ℕ
+space_from i [] = none
+space_from i (b ∷ bs) = elim (eqb b 32) [ true ↦ some i | false ↦ space_from (suc i) bs ]
 
 -- the first field as a number, and the place after its space
-unfoldable pub head_read : Short → ℕ → Head
-head_read NoShort a = NoField
-head_read (Name n) a = Field n a
+unfoldable pub head_read : Option ℕ → ℕ → Option Head
+head_read none a = none
+head_read (some n) a = some (record { number = n; rest = a })
 
-unfoldable pub head_in : List ℕ → Space → Head
-head_in s Nowhere = NoField
-head_in s (At i) = head_read (short_is (short (take i s))) (i + 1)
+unfoldable pub head_in : List ℕ → Option ℕ → Option Head
+head_in s none = none
+head_in s (some i) = head_read (short (take i s)) (i + 1)
 
-unfoldable pub head_of : List ℕ → Head
+unfoldable pub head_of : List ℕ → Option Head
 head_of s = head_in s (space_from 0 s)
 
 -- Laws
@@ -48,7 +39,7 @@ module _ (s : List ℕ) (i : ℕ) where
   pub next-byte : i < length s → drop i s ≡ get_or s i 0 ∷ drop (i + 1) s
   next-byte h = rw (add-one, drop-cons s i 0 h)
 
-  pub space-here : i < length s → get_or s i 0 ≡ 32 → space_from i (drop i s) ≡ At i
+  pub space-here : i < length s → get_or s i 0 ≡ 32 → space_from i (drop i s) ≡ some i
   unfolding space_from
   space-here h e = rw (next-byte h, eq-eqb (get_or s i 0) 32 e, space_from)
 
@@ -56,7 +47,7 @@ module _ (s : List ℕ) (i : ℕ) where
   unfolding space_from
   space-later h e = rw (next-byte h, ne_eqb (get_or s i 0) 32 e, space_from, add-one)
 
-  pub space-end : length s ≤ i → space_from i (drop i s) ≡ Nowhere
+  pub space-end : length s ≤ i → space_from i (drop i s) ≡ none
   unfolding space_from
   space-end h = rw (drop_of_length-le s h)
 
@@ -65,13 +56,13 @@ pub record Cut (s : List ℕ) (i j : ℕ) : Type 0 where
   pub within : i ≤ j
   pub parts : fields s ≡ take (j - i) s ∷ fields (drop (suc (j - i)) s)
 
-pub space-cut : (s : List ℕ) (i j : ℕ) → space_from i s ≡ At j → Cut s i j
+pub space-cut : (s : List ℕ) (i j : ℕ) → space_from i s ≡ some j → Cut s i j
 unfolding space_from fields grow
 space-cut [] i j e = let z : ◌≡◌ {A = ℕ} 0 1 = cc in absurd (omega arith)
 space-cut (b ∷ bs) i j e = step (eqb b 32) refl e (space-cut bs (suc i) j)
   where
-    step : (t : Bool) → eqb b 32 ≡ t → elim t as (λ _. Space) [ true ↦ At i | false ↦ space_from (suc i) bs ] ≡ At j
-        → (space_from (suc i) bs ≡ At j → Cut bs (suc i) j) → Cut (b ∷ bs) i j
+    step : (t : Bool) → eqb b 32 ≡ t → elim t as (λ _. Option ℕ) [ true ↦ some i | false ↦ space_from (suc i) bs ] ≡ some j
+        → (space_from (suc i) bs ≡ some j → Cut bs (suc i) j) → Cut (b ∷ bs) i j
     step true q e r =
         let here : i ≡ j = cc in
         let none : j - i ≡ 0 = omega arith in
@@ -81,32 +72,22 @@ space-cut (b ∷ bs) i j e = step (eqb b 32) refl e (space-cut bs (suc i) j)
         let more : j - i ≡ suc (j - suc i) = omega (arith, c.within) in
         record { within = omega (arith, c.within); parts = rw (q, more, fields, c.parts) }
 
-pub space-none : (s : List ℕ) (i : ℕ) → space_from i s ≡ Nowhere → fields s ≡ s ∷ []
+pub space-none : (s : List ℕ) (i : ℕ) → space_from i s ≡ none → fields s ≡ s ∷ []
 unfolding space_from fields grow
 space-none [] i e = refl
 space-none (b ∷ bs) i e = step (eqb b 32) refl e (space-none bs (suc i))
   where
-    step : (t : Bool) → eqb b 32 ≡ t → elim t as (λ _. Space) [ true ↦ At i | false ↦ space_from (suc i) bs ] ≡ Nowhere
-        → (space_from (suc i) bs ≡ Nowhere → fields bs ≡ bs ∷ []) → fields (b ∷ bs) ≡ (b ∷ bs) ∷ []
+    step : (t : Bool) → eqb b 32 ≡ t → elim t as (λ _. Option ℕ) [ true ↦ some i | false ↦ space_from (suc i) bs ] ≡ none
+        → (space_from (suc i) bs ≡ none → fields bs ≡ bs ∷ []) → fields (b ∷ bs) ≡ (b ∷ bs) ∷ []
     step true q e r = let z : ◌≡◌ {A = ℕ} 0 1 = cc in absurd (omega arith)
     step false q e r = rw (q, fields, r e)
 
-pub space-inside : (s : List ℕ) (i j : ℕ) → space_from i s ≡ At j → j < i + length s
+pub space-inside : (s : List ℕ) (i j : ℕ) → space_from i s ≡ some j → j < i + length s
 unfolding space_from
 space-inside [] i j e = let z : ◌≡◌ {A = ℕ} 0 1 = cc in absurd (omega arith)
 space-inside (b ∷ bs) i j e = step (eqb b 32) e (space-inside bs (suc i) j)
   where
-    step : (t : Bool) → elim t as (λ _. Space) [ true ↦ At i | false ↦ space_from (suc i) bs ] ≡ At j
-        → (space_from (suc i) bs ≡ At j → j < suc i + length bs) → j < i + length (b ∷ bs)
+    step : (t : Bool) → elim t as (λ _. Option ℕ) [ true ↦ some i | false ↦ space_from (suc i) bs ] ≡ some j
+        → (space_from (suc i) bs ≡ some j → j < suc i + length bs) → j < i + length (b ∷ bs)
     step true e r = let here : i ≡ j = cc in omega arith
     step false e r = omega (arith, r e)
-
-pub short-some : (o : Option ℕ) (n : ℕ) → short_is o ≡ Name n → o ≡ some n
-unfolding short_is
-short-some none n e = let z : ◌≡◌ {A = ℕ} 0 1 = cc in absurd (omega arith)
-short-some (some m) n e = cc
-
-pub short_none : (o : Option ℕ) → short_is o ≡ NoShort → o ≡ none
-unfolding short_is
-short_none none e = refl
-short_none (some m) e = let z : ◌≡◌ {A = ℕ} 0 1 = cc in absurd (omega arith)

@@ -1,55 +1,38 @@
 // A file as pairs of hexadecimal digits.
 ghost use Rattle.std.specs.Prelude.{◌≡◌, ◌+◌, ◌<◌, length, set};
 ghost use Rattle.definition.specs.Lists.{is_some, write_rows};
-ghost use Rattle.definition.specs.Script.{file};
-ghost use Rattle.script.specs.Files.{hex_value, pair_value, quick_pairs};
+ghost use Rattle.definition.specs.Script.{hex_digit, file};
+ghost use Rattle.cells.specs.Optional.{optional};
+ghost use Rattle.script.specs.Files.{pair_value, quick_pairs};
 
 use definition::numbers::BYTE_RANGE;
 
 // How many values a byte has, as a place is counted.
 const BYTES: usize = BYTE_RANGE as usize;
 
-// A digit's value; 16 if it is no digit.
-fn hex_value(b: u8) -> u8
-    ensures { result ≡ hex_value b }
+// A digit's value.
+fn hex_value(b: u8) -> Option<u8>
+    ensures { result ≡ optional (hex_digit b) }
 {
-    if b < 48 {
-        return 16;
+    match b {
+        b'0'..=b'9' => Some(b - 48),
+        b'A'..=b'F' => Some(b - 55),
+        b'a'..=b'f' => Some(b - 87),
+        _ => None,
     }
-    if b <= 57 {
-        return b - 48;
-    }
-    if b < 65 {
-        return 16;
-    }
-    if b <= 70 {
-        return b - 55;
-    }
-    if b < 97 {
-        return 16;
-    }
-    if b <= 102 {
-        return b - 87;
-    }
-    16
 }
 
 pub(crate) fn is_file(s: &[u8]) -> bool
     ensures { result ≡ is_some (file s.now) }
 {
     let n = s.len();
-    if n == 0 {
+    if n == 0 || n % 2 != 0 {
         return false;
     }
-    if n % 2 != 0 {
-        return false;
-    }
-    let mut i = 0;
-    while i < n {
-        if 15 < hex_value(s[i]) {
+    for b in s {
+        if hex_value(*b).is_none() {
             return false;
         }
-        i += 1;
     }
     true
 }
@@ -59,8 +42,8 @@ fn byte_at(s: &[u8], i: usize) -> u8
     requires { i + 1 < length s.now }
     ensures { result ≡ pair_value s.now i }
 {
-    let high = usize::from(hex_value(s[i]));
-    let low = usize::from(hex_value(s[i + 1]));
+    let high = usize::from(hex_value(s[i]).unwrap_or(16));
+    let low = usize::from(hex_value(s[i + 1]).unwrap_or(16));
     ((high * 16 + low) % BYTES) as u8
 }
 
@@ -69,9 +52,7 @@ pub(crate) fn decode(s: &[u8], file: &mut [u8])
     ensures { file.new ≡ write_rows set (quick_pairs s.now) 0 file.old }
 {
     let n = s.len() / 2;
-    let mut i = 0;
-    while i < n {
+    for i in 0..n {
         cells::put(file, i, byte_at(s, i * 2));
-        i += 1;
     }
 }

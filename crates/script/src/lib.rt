@@ -20,33 +20,11 @@ pub enum Command {
     Start(u16, u16, u16, u16, u32),
     Step,
     Drop(u16),
-    Unreadable,
-}
-
-// Where the first space is.
-#[derive(Clone, Copy)]
-enum Space {
-    At(usize),
-    Nowhere,
-}
-
-// A number of at most 32 bits.
-#[derive(Clone, Copy)]
-enum Number {
-    Value(u32),
-    NoNumber,
-}
-
-// A number of at most 16 bits.
-#[derive(Clone, Copy)]
-enum Short {
-    Name(u16),
-    NoShort,
 }
 
 // A first field that is a number of at most 16 bits, and where the fields after it begin.
 #[derive(Clone, Copy)]
-enum Head {
-    Field(u16, usize),
-    NoField,
+struct Head {
+    number: u16,
+    rest: usize,
 }

@@ -7,5 +7,3 @@ use Rattle.script.proofs.fields.first_space.Given as goal
 abbrev pub invariant-loop-i : goal.invariant-loop-i
 invariant-loop-i l = (l.i ≤ length l.s) × (space_from l.i (drop l.i l.s) ≡ space_from 0 l.s)
 
-abbrev pub decreases-loop-i : goal.decreases-loop-i
-decreases-loop-i l = length l.s - l.i

@@ -8,5 +8,3 @@ use Rattle.script.proofs.files.decode.Given as goal
 abbrev pub invariant-loop-i : goal.invariant-loop-i
 invariant-loop-i l = (l.i ≤ l.n) × (l.file ≡ write_rows set (take l.i (quick_pairs l.s)) 0 l.initial.file) × (length l.file ≡ length l.initial.file)
 
-abbrev pub decreases-loop-i : goal.decreases-loop-i
-decreases-loop-i l = l.n - l.i

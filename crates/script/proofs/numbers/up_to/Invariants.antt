@@ -8,5 +8,3 @@ use Rattle.script.proofs.numbers.up_to.Given as goal
 abbrev pub invariant-loop-i : goal.invariant-loop-i
 invariant-loop-i l = (l.i ≤ length l.s) × (l.n ≤ l.most) × (bounded l.most l.n (drop l.i l.s) ≡ up_to l.most l.s)
 
-abbrev pub decreases-loop-i : goal.decreases-loop-i
-decreases-loop-i l = length l.s - l.i
