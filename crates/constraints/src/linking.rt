@@ -14,10 +14,8 @@ fn copy_cells(source: &[u16], from: usize, n: usize, target: &mut [u16], at: usi
     requires { (from + n ≤ short_range) × (at + n ≤ length target.old) }
     ensures { Copied source.now from n target.old target.new at }
 {
-    let mut i = 0;
-    while i < n {
+    for i in 0..n {
         put(target, at + i, at(source, from + i));
-        i += 1;
     }
 }
 

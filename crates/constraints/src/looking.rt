@@ -41,10 +41,7 @@ pub(crate) fn request_at(turn: usize, newcomer: usize) -> usize
 pub(crate) fn beside(turn: usize, groups: &[u16], a: usize, b: usize) -> usize
     ensures { result ≡ lead_of turn groups.now a b }
 {
-    if turn == 1 {
-        return place(groups, b);
-    }
-    a
+    if turn == 1 { place(groups, b) } else { a }
 }
 
 // The next turn after one. A request at which no link starts is passed by: it leads nowhere, or where the first of its group leads.
@@ -58,12 +55,10 @@ pub(crate) fn next_turn(heads: &[u16], cached: usize, noted: usize, turn: usize)
     if noted == 0 {
         return cached + 2;
     }
-    let mut a = turn - 1;
-    while a < cached {
+    for a in turn - 1..cached {
         if at(heads, a) != 0 {
             return a + 2;
         }
-        a += 1;
     }
     cached + 2
 }
@@ -80,12 +75,10 @@ fn is_end(groups: &[u16], to: usize, noted: usize, group: usize) -> bool
     requires { to + noted ≤ place_limit }
     ensures { result ≡ false → (e : ℕ) → e < noted → start_of groups.now to e ≡ group → ⊥ }
 {
-    let mut e = 0;
-    while e < noted {
+    for e in 0..noted {
         if place(groups, to + e) == group {
             return true;
         }
-        e += 1;
     }
     false
 }
