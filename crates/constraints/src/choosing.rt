@@ -31,9 +31,9 @@ fn goes_before(
 ) -> bool
     ensures { result ≡ precedes row_before (trail tos.now labels.now ways.now k node) (rows (λ i. get_or best.now i 0) k 0) }
 {
-    let mut at = node;
+    let mut here = node;
     for i in 0..k {
-        let way = place(ways, at);
+        let way = place(ways, here);
         let row = at(labels, way);
         let kept = at(best, i);
         if comes_first(row, kept) {
@@ -42,7 +42,7 @@ fn goes_before(
         if comes_first(kept, row) {
             return false;
         }
-        at = place(tos, way);
+        here = place(tos, way);
     }
     false
 }
@@ -52,11 +52,11 @@ fn write_trail(tos: &[u16], labels: &[u16], ways: &[u16], node: usize, k: usize,
     requires { (k ≤ place_limit) × (length best.old ≡ place_limit) }
     ensures { rows (λ i. get_or best.new i 0) k 0 ≡ trail tos.now labels.now ways.now k node }
 {
-    let mut at = node;
+    let mut here = node;
     for i in 0..k {
-        let way = place(ways, at);
+        let way = place(ways, here);
         put(best, i, at(labels, way));
-        at = place(tos, way);
+        here = place(tos, way);
     }
 }
 
@@ -78,7 +78,10 @@ fn consider(
         return size;
     }
     let k = dist - 1;
-    if size < k || size == k && !goes_before(tos, labels, ways, node, usize::from(k), best) {
+    if size < k {
+        return size;
+    }
+    if size == k && !goes_before(tos, labels, ways, node, usize::from(k), best) {
         return size;
     }
     write_trail(tos, labels, ways, node, usize::from(k), best);

@@ -206,22 +206,12 @@ fn look_first(
     ensures { Looked (super_in supers.now) groups.now classes.now cached noted 0 a outs.new ins.new queue.new aboves.new result }
 {
     let group = place(groups, a);
-    if noted == 0 {
+    if noted == 0 || at(heads, group) == 0 && !is_end(groups, cached + noted, noted, group) {
         return Span {
             from: group,
             end: cached,
             who: Meets::Everyone,
         };
-    }
-    if at(heads, group) == 0 {
-        let highs = cached + noted;
-        if !is_end(groups, highs, noted, group) {
-            return Span {
-                from: group,
-                end: cached,
-                who: Meets::Everyone,
-            };
-        }
     }
     look_around(
         supers, groups, classes, cached, noted, heads, nexts, a, outs, ins, queue, aboves,
@@ -265,14 +255,7 @@ pub(crate) fn look(
             who: Meets::Members,
         };
     }
-    if noted == 0 {
-        return Span {
-            from: 0,
-            end: 0,
-            who: Meets::Everyone,
-        };
-    }
-    if place(groups, a) != a {
+    if noted == 0 || place(groups, a) != a {
         return Span {
             from: 0,
             end: 0,

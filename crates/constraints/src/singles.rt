@@ -31,7 +31,10 @@ fn breaks_alone(
 {
     let a = place(froms, e);
     let b = place(tos, e);
-    a < cached && b < cached && is_bad_for(supers, only, place(classes, a), place(classes, b))
+    if cached <= a || cached <= b {
+        return false;
+    }
+    is_bad_for(supers, only, place(classes, a), place(classes, b))
 }
 
 // Its row is kept if it goes before the one that is.
