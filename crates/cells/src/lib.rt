@@ -10,7 +10,7 @@ ghost use Rattle.definition.specs.Answers.{signed, less};
 ghost use Rattle.definition.specs.Tables.{put_three};
 ghost use Rattle.cells.specs.Held.{Held};
 
-use definition::numbers::{BYTE_RANGE, ROW_CELLS, SIGN_BIT};
+use definition::numbers::{BYTE_RANGE, ROW_CELLS};
 
 // What a table has in its cells: unsigned numbers, of which a table that has no such cell gives 0.
 pub trait Cell: Copy {

@@ -1,6 +1,7 @@
 -- A class file read at once, by fixed places. The reading is total: any bytes give a file, and bytes that read by the file rules
 -- give the same file as the rules do (`quick-file` of Laws).
 use Rattle.std.specs.Prelude.{◌≡◌, Bool, true, false, ◌&&◌, List, [], ℕ, zero, suc, ◌+◌, ◌-◌, ◌*◌, ◌≤◌, length, get_or, take, drop, eqb, leb, ltb}
+use Rattle.std.specs.Prelude as P
 use Rattle.std.proofs.Math.Option.{Option, none, some}
 use Rattle.definition.specs.Lists.{rows}
 use Rattle.definition.specs.declared.Arguments.{Arguments}
@@ -10,7 +11,6 @@ use Rattle.definition.specs.Classes.{signature, Field, Map, Method}
 use Rattle.definition.specs.Instructions.{pick, short_at}
 use Rattle.definition.specs.File.{File}
 use Rattle.cells.specs.Listed.{list_at}
-use Rattle.classfile.specs.declared.FieldFound.{FieldFound}
 use Rattle.classfile.specs.declared.MethodFound.{MethodFound}
 
 -- The version byte, and after the length names and counts
@@ -156,17 +156,14 @@ field_is n t f = eqb f.name n && eqb f.type t
 unfoldable pub field_named : ℕ → Field → Bool
 field_named n f = eqb f.name n
 
-unfoldable pub field_found : Option ℕ → FieldFound
-field_found none = FieldFound.Absent
-field_found (some i) = FieldFound.At i
+-- method j by its number and its place
+unfoldable pub method_found : List ℕ → Option ℕ → P.Option MethodFound
+method_found bs none = P.None
+method_found bs (some j) = P.Some (record { number = j; place = method_place bs j })
 
-unfoldable pub method_found : List ℕ → Option ℕ → MethodFound
-method_found bs none = MethodFound.Absent
-method_found bs (some j) = MethodFound.At j (method_place bs j)
-
--- number j of n, if there is one
-unfoldable pub numbered : ℕ → ℕ → Option ℕ
-numbered n j = elim (ltb j n) [ true ↦ some j | false ↦ none ]
+-- where the record of method j begins, if there is one
+unfoldable pub numbered_place : List ℕ → ℕ → Option ℕ
+numbered_place bs j = elim (ltb j (method_count bs)) [ true ↦ some (method_place bs j) | false ↦ none ]
 
 -- the bytes from start, size many, if they are there, else none at all
 unfoldable pub part_of : List ℕ → ℕ → ℕ → List ℕ

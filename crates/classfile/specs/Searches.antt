@@ -1,7 +1,8 @@
 -- What the answers of the searches say of the file that was read, and of a class's slots.
 use Rattle.std.proofs.Math.Path.{◌≡◌, refl, sym, ap}
 use Rattle.std.proofs.Common.{◌∙◌, ⊎_elim, zero-add, arith, lt-ltb, le-ltb, eq-eqb, le-leb}
-use Rattle.std.specs.Prelude.{Bool, true, false, List, [], map, ℕ, ◌+◌, ◌≤◌, ◌<◌, length, take, drop, leb}
+use Rattle.std.specs.Prelude.{Bool, true, false, List, [], map, ℕ, ◌+◌, ◌≤◌, ◌<◌, length, take, drop, leb, Some, None}
+use Rattle.std.specs.Option as P
 use Rattle.std.proofs.Math.Option.{Option, none, some}
 use Rattle.std.proofs.Math.ListN.{get_elem?}
 use Rattle.std.proofs.lemmas.Bool.{lt-leb}
@@ -10,59 +11,22 @@ use Rattle.definition.specs.Maybe.{◌>>=◌, need}
 use Rattle.definition.specs.Classes.{Base, Class, Field, Method, Slot, slot_is, own_slots, has_field, methods_of}
 use Rattle.definition.specs.File.{read_file}
 use Rattle.definition.specs.Tables.{ClassRow, file_at}
+use Rattle.cells.specs.Optional.{optional, optional-some, optional-none}
 use Rattle.layout.specs.Places.{rows_at, rows-past}
 use Rattle.layout.specs.ReadBack.{empty-file}
-use Rattle.classfile.specs.declared.FieldFound.{FieldFound}
 use Rattle.classfile.specs.declared.MethodFound.{MethodFound}
 use Rattle.classfile.specs.Lists.{le-or-lt, shift, shift-some, any-index, any-map, index-map}
-use Rattle.classfile.specs.Reading.{method_count, method_at, method_place, method_in, quick_methods, field_is, field_found, method_found, numbered, part_of}
-
--- Fields
-
-pub field_at : (o : Option ℕ) (i : ℕ) → field_found o ≡ FieldFound.At i → o ≡ some i
-unfolding field_found
-field_at none i h = cc
-field_at (some j) i h = cc
-
-pub field-absent : (o : Option ℕ) → field_found o ≡ FieldFound.Absent → o ≡ none
-unfolding field_found
-field-absent none h = refl
-field-absent (some j) h = cc
-
--- Number j of n
-
-pub numbered-in : (n j : ℕ) → j < n → numbered n j ≡ some j
-unfolding numbered
-numbered-in n j h = rw (lt-ltb j n h, numbered)
-
-pub numbered-past : (n j : ℕ) → n ≤ j → numbered n j ≡ none
-unfolding numbered
-numbered-past n j h = rw (le-ltb j n h, numbered)
-
-pub numbered-some : (n j i : ℕ) → numbered n j ≡ some i → (j < n) × (i ≡ j)
-numbered-some n j i h = ⊎_elim past here (le-or-lt n j)
-  where
-    past : n ≤ j → (j < n) × (i ≡ j)
-    past l = let z : ◌≡◌ {A = ℕ} 0 1 = cc (numbered-past n j l) in absurd (omega arith)
-
-    here : j < n → (j < n) × (i ≡ j)
-    here l = (l, cc (numbered-in n j l))
-
-pub numbered-none : (n j : ℕ) → numbered n j ≡ none → n ≤ j
-numbered-none n j h = ⊎_elim (λ l. l) here (le-or-lt n j)
-  where
-    here : j < n → n ≤ j
-    here l = let z : ◌≡◌ {A = ℕ} 0 1 = cc (numbered-in n j l) in absurd (omega arith)
+use Rattle.classfile.specs.Reading.{method_count, method_at, method_place, method_in, quick_methods, field_is, method_found, numbered_place, part_of}
 
 -- Methods
 
 module _ (bs : List ℕ) where
-  pub method-at : (o : Option ℕ) (j p : ℕ) → method_found bs o ≡ MethodFound.At j p → (o ≡ some j) × (p ≡ method_place bs j)
+  pub method-at : (o : Option ℕ) (m : MethodFound) → method_found bs o ≡ Some m → (o ≡ some m.number) × (m.place ≡ method_place bs m.number)
   unfolding method_found
-  method-at none j p h = let z : ◌≡◌ {A = ℕ} 0 1 = cc in absurd (omega arith)
-  method-at (some i) j p h = (cc, cc)
+  method-at none m h = let z : ◌≡◌ {A = ℕ} 0 1 = cc in absurd (omega arith)
+  method-at (some i) m h = (cc, cc)
 
-  pub method-absent : (o : Option ℕ) → method_found bs o ≡ MethodFound.Absent → o ≡ none
+  pub method-absent : (o : Option ℕ) → method_found bs o ≡ None → o ≡ none
   unfolding method_found
   method-absent none h = refl
   method-absent (some j) h = cc
@@ -78,15 +42,31 @@ module _ (bs : List ℕ) where
 
   -- what is found by a number
 
-  pub method-numbered : (j i p : ℕ) → method_found bs (numbered (method_count bs) j) ≡ MethodFound.At i p
-      → get_elem? (quick_methods bs) j ≡ some (method_at bs p)
-  method-numbered j i p h =
-      let a = method-at (numbered (method_count bs) j) i p h in
-      let b = numbered-some (method_count bs) j i a.0 in
-      method-there j b.0 ∙ ap {B = Option Method} (λ q. some (method_at bs q)) (sym (a.1 ∙ ap (method_place bs) b.1))
+  pub numbered-in : (j : ℕ) → j < method_count bs → numbered_place bs j ≡ some (method_place bs j)
+  unfolding numbered_place
+  numbered-in j h = rw (lt-ltb j (method_count bs) h, numbered_place)
 
-  pub method-unnumbered : (j : ℕ) → method_found bs (numbered (method_count bs) j) ≡ MethodFound.Absent → get_elem? (quick_methods bs) j ≡ none
-  method-unnumbered j h = method-past j (numbered-none (method_count bs) j (method-absent (numbered (method_count bs) j) h))
+  pub numbered-past : (j : ℕ) → method_count bs ≤ j → numbered_place bs j ≡ none
+  unfolding numbered_place
+  numbered-past j h = rw (le-ltb j (method_count bs) h, numbered_place)
+
+  pub method-numbered : (j p : ℕ) → optional (numbered_place bs j) ≡ Some p → get_elem? (quick_methods bs) j ≡ some (method_at bs p)
+  method-numbered j p h = ⊎_elim past here (le-or-lt (method_count bs) j)
+    where
+      found : numbered_place bs j ≡ some p
+      found = optional-some (numbered_place bs j) p h
+
+      past : method_count bs ≤ j → get_elem? (quick_methods bs) j ≡ some (method_at bs p)
+      past l = let z : ◌≡◌ {A = ℕ} 0 1 = cc (numbered-past j l, found) in absurd (omega arith)
+
+      here : j < method_count bs → get_elem? (quick_methods bs) j ≡ some (method_at bs p)
+      here l = let e : method_place bs j ≡ p = cc (numbered-in j l, found) in rw (← e) (method-there j l)
+
+  pub method-unnumbered : (j : ℕ) → optional (numbered_place bs j) ≡ None → get_elem? (quick_methods bs) j ≡ none
+  method-unnumbered j h = ⊎_elim (method-past j) here (le-or-lt (method_count bs) j)
+    where
+      here : j < method_count bs → get_elem? (quick_methods bs) j ≡ none
+      here l = let z : ◌≡◌ {A = ℕ} 0 1 = cc (numbered-in j l, optional-none (numbered_place bs j) h) in absurd (omega arith)
 
 -- A class's fields as its slots, whether it has a field, and its methods
 
@@ -123,15 +103,14 @@ pub any_none : {A : Type 0} (f : A → Bool) (xs : List A) → index_of f xs ≡
 unfolding is_some
 any_none f xs h = any-index f xs ∙ ap is_some h
 
--- the same of a method that a search from number i on finds or does not find
-module _ (bs : List ℕ) (f : Method → Bool) (xs : List Method) (i : ℕ) where
-  pub method-later : (j p : ℕ) → method_found bs (shift i (index_of f xs)) ≡ MethodFound.At j p → any f xs ≡ true
-  unfolding is_some
-  method-later j p h = any-index f xs ∙ sym (shift-some (index_of f xs) i) ∙ ap is_some (method-at bs (shift i (index_of f xs)) j p h).0
-
-  pub method-never : method_found bs (shift i (index_of f xs)) ≡ MethodFound.Absent → any f xs ≡ false
-  unfolding is_some
-  method-never h = any-index f xs ∙ sym (shift-some (index_of f xs) i) ∙ ap is_some (method-absent bs (shift i (index_of f xs)) h)
+-- a search from number i on finds a method exactly if one passes
+pub method-some : (bs : List ℕ) (f : Method → Bool) (xs : List Method) (i : ℕ) → P.is_some (method_found bs (shift i (index_of f xs))) ≡ any f xs
+unfolding is_some method_found
+method-some bs f xs i = same (shift i (index_of f xs)) ∙ shift-some (index_of f xs) i ∙ sym (any-index f xs)
+  where
+    same : (o : Option ℕ) → P.is_some (method_found bs o) ≡ is_some o
+    same none = refl
+    same (some j) = refl
 
 -- A part of the kept bytes
 

@@ -2,9 +2,8 @@
 ghost use Rattle.std.specs.Prelude.{◌≡◌, ◌≤◌};
 ghost use Rattle.definition.specs.Lists.{any, index_of};
 ghost use Rattle.classfile.specs.Reading.{file_version, class_name, super_name, field_count, field_place, field_in, quick_fields, fields_from};
-ghost use Rattle.classfile.specs.Reading.{field_is, field_named, field_found};
-
-use crate::FieldFound;
+ghost use Rattle.classfile.specs.Reading.{field_is, field_named};
+ghost use Rattle.cells.specs.Optional.{optional};
 
 pub fn version(bytes: &[u8]) -> u8
     ensures { result ≡ file_version bytes.now }
@@ -57,32 +56,26 @@ fn is_field(bytes: &[u8], i: u8, name: u16, type_name: u16) -> bool
     field_type(bytes, i) == type_name
 }
 
-// The first field of that name and type.
-pub fn find_field(bytes: &[u8], name: u16, type_name: u16) -> FieldFound
-    ensures { result ≡ field_found (index_of (field_is name type_name) (quick_fields bytes.now)) }
+// The number of the first field of that name and type.
+pub fn find_field(bytes: &[u8], name: u16, type_name: u16) -> Option<u8>
+    ensures { result ≡ optional (index_of (field_is name type_name) (quick_fields bytes.now)) }
 {
-    let n = field_count(bytes);
-    let mut i: u8 = 0;
-    while i < n {
+    for i in 0..field_count(bytes) {
         if is_field(bytes, i, name, type_name) {
-            return FieldFound::At(i);
+            return Some(i);
         }
-        i += 1;
     }
-    FieldFound::Absent
+    None
 }
 
 // A field of that name, from field `first` on.
 pub(crate) fn named_from(bytes: &[u8], first: u8, name: u16) -> bool
     ensures { result ≡ any (field_named name) (fields_from bytes.now first) }
 {
-    let n = field_count(bytes);
-    let mut i = first;
-    while i < n {
+    for i in first..field_count(bytes) {
         if field_name(bytes, i) == name {
             return true;
         }
-        i += 1;
     }
     false
 }

@@ -14,16 +14,9 @@ pub use methods::{code, find_method, method_count, method_place, part};
 pub use rules::reads;
 pub use signatures::{is_named, method_signature};
 
-// A field by its number among the file's fields.
-#[derive(Clone, Copy)]
-pub enum FieldFound {
-    At(u8),
-    Absent,
-}
-
 // A method by its number among the file's methods, and the place at which its record begins.
 #[derive(Clone, Copy)]
-pub enum MethodFound {
-    At(u8, u32),
-    Absent,
+pub struct MethodFound {
+    pub number: u8,
+    pub place: u32,
 }

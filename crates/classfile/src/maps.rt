@@ -4,7 +4,7 @@ ghost use Rattle.definition.specs.Instructions.{short_at};
 ghost use Rattle.classfile.specs.Reading.{map_count, map_depth, type_at, map_place, map_bytes, maps_size};
 
 use crate::fields::version;
-use crate::methods::{code_length, code_place, least};
+use crate::methods::{code_length, code_place};
 use definition::numbers::VERSION_TWO;
 
 // The maps of the method whose record begins at that place: the part of the bytes, no copy, from the count of the maps on. None in version 1.
@@ -16,7 +16,7 @@ pub fn method_maps<'a>(bytes: &'a [u8], place: u32) -> &'a [u8]
         return &bytes[size..size];
     }
     let end = code_place(bytes, place) + usize::from(code_length(bytes, place));
-    &bytes[least(end, size)..size]
+    &bytes[end.min(size)..size]
 }
 
 pub fn map_count(maps: &[u8]) -> u8
@@ -63,12 +63,9 @@ pub fn map_size(maps: &[u8], place: u32) -> u32
 pub(crate) fn maps_end(maps: &[u8]) -> u32
     ensures { (result ≡ map_place maps.now (map_count maps.now)) × (result ≤ 134896) }
 {
-    let n = map_count(maps);
     let mut place: u32 = 1;
-    let mut i: u8 = 0;
-    while i < n {
+    for i in 0..map_count(maps) {
         place += map_size(maps, place);
-        i += 1;
     }
     place
 }

@@ -1,11 +1,12 @@
 // Methods, by their number and by the place at which their record begins, and their code.
-ghost use Rattle.std.specs.Prelude.{◌≡◌, ◌+◌, ◌<◌, ◌≤◌, min};
+ghost use Rattle.std.specs.Prelude.{◌≡◌, ◌+◌, ◌<◌, ◌≤◌};
 ghost use Rattle.definition.specs.Numbers.{version_two};
 ghost use Rattle.definition.specs.Lists.{index_of};
 ghost use Rattle.definition.specs.Classes.{alike};
 ghost use Rattle.classfile.specs.Lists.{shift};
 ghost use Rattle.classfile.specs.Reading.{file_version, method_count, code_place, code_length, code_at, next_place, method_place, Placed, quick_methods, methods_from};
-ghost use Rattle.classfile.specs.Reading.{method_found, numbered, part_of};
+ghost use Rattle.classfile.specs.Reading.{method_found, numbered_place, part_of};
+ghost use Rattle.cells.specs.Optional.{optional};
 
 use crate::MethodFound;
 use crate::fields::{field_count, field_place, version};
@@ -33,19 +34,13 @@ pub(crate) fn code_place(bytes: &[u8], place: u32) -> usize
     result_place(bytes, place) + 4
 }
 
-pub(crate) fn least(a: usize, b: usize) -> usize
-    ensures { result ≡ min a b }
-{
-    if a <= b { a } else { b }
-}
-
 // The code of the method whose record begins at that place: the part of the bytes, no copy, clipped where the bytes end.
 pub fn code<'a>(bytes: &'a [u8], place: u32) -> &'a [u8]
     ensures { result.now ≡ code_at bytes.now place }
 {
     let size = bytes.len();
-    let start = least(code_place(bytes, place), size);
-    let end = least(start + usize::from(code_length(bytes, place)), size);
+    let start = code_place(bytes, place).min(size);
+    let end = (start + usize::from(code_length(bytes, place))).min(size);
     &bytes[start..end]
 }
 
@@ -104,10 +99,8 @@ fn place_of_first(bytes: &[u8], j: u8) -> u32
     ensures { result ≡ method_place bytes.now j }
 {
     let mut place = first_place(bytes);
-    let mut i: u8 = 0;
-    while i < j {
+    for i in 0..j {
         place = next_first(bytes, place);
-        i += 1;
     }
     place
 }
@@ -120,45 +113,40 @@ fn place_of(bytes: &[u8], j: u8) -> u32
         return place_of_first(bytes, j);
     }
     let mut place = first_place(bytes);
-    let mut i: u8 = 0;
-    while i < j {
+    for i in 0..j {
         place = next_later(bytes, place);
-        i += 1;
     }
     place
 }
 
-// Method j, if there is one.
-pub fn method_place(bytes: &[u8], j: u8) -> MethodFound
-    ensures { result ≡ method_found bytes.now (numbered (method_count bytes.now) j) }
+// The place at which the record of method j begins, if there is one.
+pub fn method_place(bytes: &[u8], j: u8) -> Option<u32>
+    ensures { result ≡ optional (numbered_place bytes.now j) }
 {
     if j < method_count(bytes) {
-        MethodFound::At(j, place_of(bytes, j))
+        Some(place_of(bytes, j))
     } else {
-        MethodFound::Absent
+        None
     }
 }
 
 // The first method alike in name, list and result, from method `first` on, whose record begins at `start`.
-pub(crate) fn alike_from(bytes: &[u8], first: u8, start: u32, s: Signature) -> MethodFound
+pub(crate) fn alike_from(bytes: &[u8], first: u8, start: u32, s: Signature) -> Option<MethodFound>
     requires { Placed bytes.now first start }
     ensures { result ≡ method_found bytes.now (shift first (index_of (alike s) (methods_from bytes.now first))) }
 {
-    let n = method_count(bytes);
     let mut place = start;
-    let mut j = first;
-    while j < n {
+    for j in first..method_count(bytes) {
         if is_alike(bytes, place, s) {
-            return MethodFound::At(j, place);
+            return Some(MethodFound { number: j, place });
         }
         place = next_place(bytes, place);
-        j += 1;
     }
-    MethodFound::Absent
+    None
 }
 
 // The first method alike in name, list and result.
-pub fn find_method(bytes: &[u8], s: Signature) -> MethodFound
+pub fn find_method(bytes: &[u8], s: Signature) -> Option<MethodFound>
     ensures { result ≡ method_found bytes.now (index_of (alike s) (quick_methods bytes.now)) }
 {
     alike_from(bytes, 0, first_place(bytes), s)

@@ -8,7 +8,6 @@ ghost use Rattle.classfile.specs.Reading.{Placed, method_in, quick_methods, meth
 ghost use Rattle.classfile.specs.Rules.{sized, titled, named_field, named_fields, listed_method, named_method, coded_method};
 ghost use Rattle.classfile.specs.Rules.{operands_set, whole_map, whole_maps, mapped_method, whole_method, whole_methods};
 
-use crate::MethodFound;
 use crate::fields::{
     class_name, field_count, field_name, field_type, named_from, super_name, version,
 };
@@ -66,13 +65,10 @@ fn is_named_field(bytes: &[u8], i: u8) -> bool
 fn are_fields_named(bytes: &[u8]) -> bool
     ensures { result ≡ named_fields bytes.now }
 {
-    let n = field_count(bytes);
-    let mut i: u8 = 0;
-    while i < n {
+    for i in 0..field_count(bytes) {
         if !is_named_field(bytes, i) {
             return false;
         }
-        i += 1;
     }
     true
 }
@@ -128,13 +124,10 @@ fn is_coded_method(bytes: &[u8], place: u32) -> bool
 fn are_operands_set(maps: &[u8], place: u32) -> bool
     ensures { result ≡ operands_set maps.now place }
 {
-    let n = map_depth(maps, place);
-    let mut i: u8 = 0;
-    while i < n {
+    for i in 0..map_depth(maps, place) {
         if map_operand(maps, place, i) < 1 {
             return false;
         }
-        i += 1;
     }
     true
 }
@@ -161,17 +154,14 @@ fn are_maps_whole(maps: &[u8]) -> bool
     if maps.len() < 1 {
         return false;
     }
-    let n = map_count(maps);
     let mut place: u32 = 1;
     let mut low: u32 = 0;
-    let mut i: u8 = 0;
-    while i < n {
+    for i in 0..map_count(maps) {
         if !is_whole_map(maps, low, place) {
             return false;
         }
         low = u32::from(map_offset(maps, place)) + 1;
         place += map_size(maps, place);
-        i += 1;
     }
     true
 }
@@ -205,15 +195,12 @@ fn is_whole_method(bytes: &[u8], place: u32) -> bool
 fn are_methods_whole(bytes: &[u8]) -> bool
     ensures { result ≡ whole_methods bytes.now }
 {
-    let n = method_count(bytes);
     let mut place = first_place(bytes);
-    let mut j: u8 = 0;
-    while j < n {
+    for j in 0..method_count(bytes) {
         if !is_whole_method(bytes, place) {
             return false;
         }
         place = next_place(bytes, place);
-        j += 1;
     }
     place as usize == bytes.len()
 }
@@ -222,13 +209,10 @@ fn are_methods_whole(bytes: &[u8]) -> bool
 fn is_field_doubled(bytes: &[u8]) -> bool
     ensures { result ≡ doubled same_field (quick_fields bytes.now) }
 {
-    let n = field_count(bytes);
-    let mut i: u8 = 0;
-    while i < n {
+    for i in 0..field_count(bytes) {
         if named_from(bytes, i + 1, field_name(bytes, i)) {
             return true;
         }
-        i += 1;
     }
     false
 }
@@ -239,26 +223,19 @@ fn is_repeated(bytes: &[u8], j: u8, place: u32) -> bool
     ensures { result ≡ any (same_method (method_in bytes.now j)) (methods_from bytes.now (j + 1)) }
 {
     let s = method_signature(bytes, place);
-    let later = alike_from(bytes, j + 1, next_place(bytes, place), s);
-    match later {
-        MethodFound::At(_, _) => true,
-        MethodFound::Absent => false,
-    }
+    alike_from(bytes, j + 1, next_place(bytes, place), s).is_some()
 }
 
 // Two methods alike in name, list and result.
 fn is_method_doubled(bytes: &[u8]) -> bool
     ensures { result ≡ doubled same_method (quick_methods bytes.now) }
 {
-    let n = method_count(bytes);
     let mut place = first_place(bytes);
-    let mut j: u8 = 0;
-    while j < n {
+    for j in 0..method_count(bytes) {
         if is_repeated(bytes, j, place) {
             return true;
         }
         place = next_place(bytes, place);
-        j += 1;
     }
     false
 }

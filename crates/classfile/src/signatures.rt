@@ -97,13 +97,10 @@ pub fn is_named(s: Signature) -> bool
         return false;
     }
     let arguments = s.arguments;
-    let n = argument_count(arguments);
-    let mut i: u8 = 0;
-    while i < n {
+    for i in 0..argument_count(arguments) {
         if argument_at(arguments, i) < 1 {
             return false;
         }
-        i += 1;
     }
     1 <= s.result
 }

@@ -238,27 +238,12 @@ pub fn write_entry(frames: &mut [u32], b: u32, e: Entry)
 fn write_initial(objects: &mut [u32], o: u32, j: u8, name: u16)
     ensures { objects.new ≡ put_field o objects.old j (initial_of name) }
 {
-    if name == NAME_INT {
-        write_field(
-            objects,
-            o,
-            j,
-            Cell {
-                kind: KIND_INT,
-                bits: 0,
-            },
-        );
+    let kind = if name == NAME_INT {
+        KIND_INT
     } else {
-        write_field(
-            objects,
-            o,
-            j,
-            Cell {
-                kind: KIND_NULL,
-                bits: 0,
-            },
-        );
-    }
+        KIND_NULL
+    };
+    write_field(objects, o, j, Cell { kind, bits: 0 });
 }
 
 // A new object's row: its class, and what n fields of those types begin as.
@@ -266,9 +251,7 @@ pub fn write_object(objects: &mut [u32], o: u32, c: u32, types: &[u16], n: u8)
     ensures { objects.new ≡ put_object objects.old o (initial_object c types.now n) }
 {
     cells::put(objects, o as usize * OBJECT_CELLS, c);
-    let mut i = n;
-    while 0 < i {
-        write_initial(objects, o, i - 1, cells::at(types, usize::from(i - 1)));
-        i -= 1;
+    for i in (0..n).rev() {
+        write_initial(objects, o, i, cells::at(types, usize::from(i)));
     }
 }

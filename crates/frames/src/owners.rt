@@ -26,11 +26,7 @@ pub fn write_owner(counts: &mut [u16], o: u32, owner: u16)
 pub fn is_used(counts: &[u16], o: u32) -> bool
     ensures { result ≡ is_used counts.now o }
 {
-    if o < u32::from(cells::at(counts, COUNT_OBJECTS)) {
-        owner(counts, o) != 0
-    } else {
-        false
-    }
+    o < u32::from(cells::at(counts, COUNT_OBJECTS)) && owner(counts, o) != 0
 }
 
 // The lowest row from that one on that is free or past the object count.
@@ -38,14 +34,12 @@ pub fn unused(counts: &[u16], from: u16) -> u16
     ensures { result ≡ unused_from counts.now from }
 {
     let n = cells::at(counts, COUNT_OBJECTS);
-    let mut o = from;
-    while o < n {
+    for o in from..n {
         if owner(counts, u32::from(o)) == 0 {
             return o;
         }
-        o += 1;
     }
-    o
+    from.max(n)
 }
 
 // How many objects a task made: every row below the object count that the table holds is looked at once.
@@ -56,12 +50,10 @@ pub fn made_by(counts: &[u16], task: u8) -> u16
     let rows = usize::from(cells::at(counts, COUNT_OBJECTS));
     let held = cells::held(counts, OWNERS_CELL, rows);
     let mut made: u16 = 0;
-    let mut o: usize = 0;
-    while o < held {
+    for o in 0..held {
         if counts[OWNERS_CELL + o] == own {
             made += 1;
         }
-        o += 1;
     }
     made
 }
@@ -70,8 +62,5 @@ pub fn made_by(counts: &[u16], task: u8) -> u16
 pub fn is_share_used(task: u8, made: u16) -> bool
     ensures { result ≡ used_share task made }
 {
-    if task == 0 {
-        return false;
-    }
-    SHARE_LIMIT <= made
+    task != 0 && SHARE_LIMIT <= made
 }

@@ -62,14 +62,7 @@ pub fn refuse(word: u8) -> Plan
 pub fn is_reference(v: Cell) -> bool
     ensures { result ≡ is_reference v.kind v.bits }
 {
-    if v.kind == KIND_OBJECT {
-        return true;
-    }
-    if v.kind == KIND_NULL {
-        v.bits == 0
-    } else {
-        false
-    }
+    v.kind == KIND_OBJECT || v.kind == KIND_NULL && v.bits == 0
 }
 
 // Whether cells hold a value of the kind.
@@ -305,11 +298,7 @@ pub fn branch(frames: &[u32], top: Top, c: Condition, target: u16) -> Plan
 fn has_room_below(frames: &[u32], top: Top) -> bool
     ensures { result ≡ room_below frames.now top.task top.row }
 {
-    let m = top.row;
-    if m == 0 {
-        return true;
-    }
-    frames::depth(frames, frames::row(top.task, m - 1)) < OPERAND_LIMIT
+    top.row == 0 || frames::depth(frames, frames::row(top.task, top.row - 1)) < OPERAND_LIMIT
 }
 
 // A value of the kind given back; a first frame's must be an int.

@@ -1,22 +1,16 @@
 -- Posting: when a constraint is there already, and what is written where one is added.
-use mathlib.Core.Path.{◌≡◌, refl, sym, ap, ◌∙◌}
-use mathlib.Core.Bool.{Bool, true, false, true≢false, ◌&&◌}
+use mathlib.Core.Path.{◌≡◌, refl, ap, ◌∙◌}
+use mathlib.Core.Bool.{Bool, true, false}
 use mathlib.Core.List.{List, [], ◌∷◌, ◌++◌}
-use Prim.Native.Nat.{ℕ, zero, suc, ◌+◌, ◌-◌, ◌*◌, ◌≤◌, ◌<◌}
+use Prim.Native.Nat.{ℕ, zero, suc, ◌+◌, ◌-◌, ◌≤◌, ◌<◌}
 use native.Mathlib.Omega.{arith}
-use lib.ListN.{length, get_or}
-use lib.Dec.{eqb}
-use borrow.Author.Tests.{eq-eqb, ne_eqb}
+use lib.ListN.{length}
 use Rattle.definition.specs.Lists.{any, rows, write_rows}
-use Rattle.definition.specs.Constraints.{Subtype, tie_is}
+use Rattle.definition.specs.Constraints.{Subtype}
 use Rattle.definition.specs.Loading.{subtype_is, subtype_of, new_subtypes}
 use Rattle.definition.specs.Verifier.{Note}
-use Rattle.definition.specs.Tables.{tie_at, subtype_at, put_subtype, put_three}
+use Rattle.definition.specs.Tables.{subtype_at, put_subtype, put_three}
 use Rattle.rows.specs.Posting.{note, new_subtypes_in, subtypes_after}
-
--- a search of n rows begins
-pub any-start : {A : Type 0} (f : A → Bool) (g : ℕ → A) (n m : ℕ) → n ≡ m → any f (rows g (n - 0) 0) ≡ any f (rows g m 0)
-any-start f g n m e = let z : n - 0 ≡ m = omega arith in rw z
 
 -- Looked at from the last row on
 
@@ -54,52 +48,6 @@ pub any-nothing : {A : Type 0} (f : A → Bool) (g : ℕ → A) (i : ℕ) → i 
 unfolding any rows
 any-nothing f g zero l = refl
 any-nothing f g (suc k) l = absurd (omega arith)
-
--- A row is the constraint
-
-module _ (t : List ℕ) (i l m n : ℕ) where
-  pub tie-not : (get_or t (i * 3 + 2) 0 ≡ n → ⊥) → tie_is l m n (tie_at t i) ≡ false
-  unfolding tie_is tie_at
-  tie-not h = rw (ne_eqb (get_or t (i * 3 + 2) 0) n h) refl
-
-  pub tie-straight : get_or t (i * 3 + 2) 0 ≡ n → (eqb (get_or t (i * 3) 0) l && eqb (get_or t (i * 3 + 1) 0) m) ≡ true → tie_is l m n (tie_at t i) ≡ true
-  unfolding tie_is tie_at
-  tie-straight h e = rw (eq-eqb (get_or t (i * 3 + 2) 0) n h, e) refl
-
-  pub tie-turned : get_or t (i * 3 + 2) 0 ≡ n → (eqb (get_or t (i * 3) 0) l && eqb (get_or t (i * 3 + 1) 0) m) ≡ false
-      → tie_is l m n (tie_at t i) ≡ (eqb (get_or t (i * 3) 0) m && eqb (get_or t (i * 3 + 1) 0) l)
-  unfolding tie_is tie_at
-  tie-turned h e = rw (eq-eqb (get_or t (i * 3 + 2) 0) n h, e) refl
-
-module _ (t : List ℕ) (i l a b : ℕ) where
-  -- the names first, then the loader
-  turned : (x y z : Bool) → (x && y && z) ≡ (y && z && x)
-  turned true true true = refl
-  turned true true false = refl
-  turned true false z = refl
-  turned false true true = refl
-  turned false true false = refl
-  turned false false z = refl
-
-  names-first : subtype_is l (note a b) (subtype_at t i) ≡ (eqb (get_or t (i * 3 + 1) 0) a && eqb (get_or t (i * 3 + 2) 0) b && eqb (get_or t (i * 3) 0) l)
-  unfolding subtype_is subtype_at
-  names-first = turned (eqb (get_or t (i * 3) 0) l) (eqb (get_or t (i * 3 + 1) 0) a) (eqb (get_or t (i * 3 + 2) 0) b)
-
-  pub subtype-not : (eqb (get_or t (i * 3 + 1) 0) a && eqb (get_or t (i * 3 + 2) 0) b) ≡ false → subtype_is l (note a b) (subtype_at t i) ≡ false
-  subtype-not h = names-first ∙ go (eqb (get_or t (i * 3 + 1) 0) a) (eqb (get_or t (i * 3 + 2) 0) b) h
-    where
-      go : (y z : Bool) → (y && z) ≡ false → (y && z && eqb (get_or t (i * 3) 0) l) ≡ false
-      go true true q = absurd (true≢false q)
-      go true false q = refl
-      go false z q = refl
-
-  pub subtype-named : (eqb (get_or t (i * 3 + 1) 0) a && eqb (get_or t (i * 3 + 2) 0) b) ≡ true → subtype_is l (note a b) (subtype_at t i) ≡ eqb (get_or t (i * 3) 0) l
-  subtype-named h = names-first ∙ go (eqb (get_or t (i * 3 + 1) 0) a) (eqb (get_or t (i * 3 + 2) 0) b) h
-    where
-      go : (y z : Bool) → (y && z) ≡ true → (y && z && eqb (get_or t (i * 3) 0) l) ≡ eqb (get_or t (i * 3) 0) l
-      go true true q = refl
-      go true false q = absurd (true≢false (sym q))
-      go false z q = absurd (true≢false (sym q))
 
 -- A subtype constraint
 

@@ -1,19 +1,21 @@
 -- Numbers in turn: the next number, of n, is looked for in the rows from t on of one table and from s on of the other.
 use mathlib.Core.Path.{◌≡◌, refl, sym, ap, ◌∙◌}
 use mathlib.Core.Bool.{Bool, true, false, false≢true}
+use Rattle.std.specs.Prelude.{Option, Some, None}
+use Rattle.std.specs.Option.{option_eq}
 use mathlib.Core.List.{List, [], ◌∷◌}
 use Prim.Native.Nat.{ℕ, suc, ◌+◌, ◌-◌, ◌≤◌, ◌<◌}
 use native.Mathlib.Omega.{arith}
 use native.Mathlib.Numerals.{add-one}
 use lib.ListN.{get_or}
 use lib.Dec.{eqb, ltb}
-use borrow.Author.Tests.{ltb-true, ltb-false, eqb-true, eqb-false, eq-eqb, ne_eqb}
+use borrow.Author.Tests.{ltb-true, ltb-false}
 use Rattle.definition.specs.Numbers.{count_ties, count_subtypes, tie_numbers_cell, subtype_numbers_cell}
 use Rattle.definition.specs.Lists.{rows}
 use Rattle.definition.specs.Tables.{number_at}
 use Rattle.definition.specs.Broken.{next, others, in_turn, numbered}
 use Rattle.layout.specs.Places.{rows-length, rows_none, rows_step, rows_start}
-use Rattle.rows.specs.Numbers.{no_number, standing, numbers_fit}
+use Rattle.rows.specs.Numbers.{standing, numbers_fit}
 
 -- a row that has it is one of them
 pub next-there : (k : ℕ) (g : ℕ → ℕ) (n i : ℕ) → next k (rows g (n - i) i) ≡ true → i < n
@@ -26,25 +28,19 @@ next-there k g n i h = go (ltb i n) refl
 
 -- what stands first of the rows from i on
 
-pub standing-there : (g : ℕ → ℕ) (n i : ℕ) → i < n → standing (rows g (n - i) i) ≡ g i
+pub standing-there : (g : ℕ → ℕ) (n i : ℕ) → i < n → standing (rows g (n - i) i) ≡ Some (g i)
 unfolding standing
 standing-there g n i l = rw (rows_step g n i l)
 
-pub standing-past : (g : ℕ → ℕ) (n i : ℕ) → n ≤ i → standing (rows g (n - i) i) ≡ no_number
+pub standing-past : (g : ℕ → ℕ) (n i : ℕ) → n ≤ i → standing (rows g (n - i) i) ≡ None
 unfolding standing
 standing-past g n i l = rw (rows_none g n i l)
 
 -- number k is the next exactly if it stands first
-next-standing : (k : ℕ) (xs : List ℕ) → k < no_number → next k xs ≡ eqb (standing xs) k
+pub next-is : (k : ℕ) (xs : List ℕ) (x : Option ℕ) (b : Bool) → x ≡ standing xs → option_eq eqb x (Some k) ≡ b → next k xs ≡ b
 unfolding next standing
-next-standing k [] l = sym (ne_eqb no_number k (λ e. omega arith))
-next-standing k (x ∷ xs) l = refl
-
-pub next-is : (k x : ℕ) (xs : List ℕ) → k < no_number → x ≡ standing xs → x ≡ k → next k xs ≡ true
-next-is k x xs l e q = next-standing k xs l ∙ eq-eqb (standing xs) k (sym e ∙ q)
-
-pub next-isnt : (k x : ℕ) (xs : List ℕ) → k < no_number → x ≡ standing xs → (x ≡ k → ⊥) → next k xs ≡ false
-next-isnt k x xs l e q = next-standing k xs l ∙ ne_eqb (standing xs) k (λ z. q (e ∙ z))
+next-is k [] x b e h = ap (λ (y : Option ℕ). option_eq eqb y (Some k)) (sym e) ∙ h
+next-is k (z ∷ zs) x b e h = ap (λ (y : Option ℕ). option_eq eqb y (Some k)) (sym e) ∙ h
 
 others-rows : (g : ℕ → ℕ) (n i : ℕ) → i < n → others (rows g (n - i) i) ≡ rows g (n - (i + 1)) (i + 1)
 unfolding others
@@ -68,22 +64,13 @@ module _ (f g : ℕ → ℕ) (a b n k t s : ℕ) (l : k < n) where
   unfolding in_turn
   turn-subtype e h = turn_step ∙ rw (e, h, in_turn, others-rows g b s (next-there k g b s h), add-one k)
 
-  turn-neither : next k ts ≡ false → next k ss ≡ false → in_turn (n - k) k ts ss ≡ false
+  pub turn-neither : next k ts ≡ false → next k ss ≡ false → in_turn (n - k) k ts ss ≡ false
   unfolding in_turn
   turn-neither e h = turn_step ∙ rw (e, h, in_turn)
 
-turn_end : (n k : ℕ) (ts ss : List ℕ) → n ≤ k → in_turn (n - k) k ts ss ≡ true
+pub turn-end : (n k : ℕ) (ts ss : List ℕ) → n ≤ k → in_turn (n - k) k ts ss ≡ true
 unfolding in_turn
-turn_end n k ts ss l = let e : n - k ≡ 0 = omega arith in rw e
-
--- where no table has number k next, all are in turn exactly if there are no more
-pub turn-stop : (f g : ℕ → ℕ) (a b n k t s : ℕ) → k ≤ n → next k (rows f (a - t) t) ≡ false → next k (rows g (b - s) s) ≡ false
-    → eqb k n ≡ in_turn (n - k) k (rows f (a - t) t) (rows g (b - s) s)
-turn-stop f g a b n k t s l e h = go (eqb k n) refl
-  where
-    go : (z : Bool) → eqb k n ≡ z → eqb k n ≡ in_turn (n - k) k (rows f (a - t) t) (rows g (b - s) s)
-    go true q = q ∙ sym (turn_end n k _ _ (omega (arith, eqb-true k n q)))
-    go false q = q ∙ sym (turn-neither f g a b n k t s (omega (arith, eqb-false k n q)) e h)
+turn-end n k ts ss l = let e : n - k ≡ 0 = omega arith in rw e
 
 -- before the first
 pub turn-start : (c : List ℕ) (a b n : ℕ) → a ≡ get_or c count_ties 0 → b ≡ get_or c count_subtypes 0 → n ≡ a + b

@@ -1,5 +1,5 @@
 // Posting ties and subtype constraints.
-ghost use Rattle.std.specs.Prelude.{◌≡◌, ◌+◌, ◌<◌, length, eqb, ◌&&◌, [], ◌∷◌};
+ghost use Rattle.std.specs.Prelude.{◌≡◌, ◌+◌, ◌<◌, length, [], ◌∷◌};
 ghost use Rattle.definition.specs.Numbers.{short_range};
 ghost use Rattle.definition.specs.Lists.{rows, any};
 ghost use Rattle.definition.specs.Constraints.{tie_is};
@@ -10,13 +10,6 @@ ghost use Rattle.rows.specs.Posting.{new_subtypes_in, note, subtypes_after, note
 use cells::{at, put_three};
 use definition::numbers::{ROW_CELLS, SUBTYPE_LIMIT};
 
-// Two cells are equal to these two.
-fn are_equal(a: u16, b: u16, x: u16, y: u16) -> bool
-    ensures { result ≡ (eqb a x && eqb b y) }
-{
-    if a == x { b == y } else { false }
-}
-
 // Row i is a tie of two loaders, in either order, on a name.
 fn tie_is(ties: &[u16], i: usize, one: u8, two: u8, name: u16) -> bool
     requires { i < short_range }
@@ -26,26 +19,18 @@ fn tie_is(ties: &[u16], i: usize, one: u8, two: u8, name: u16) -> bool
     let second = at(ties, i * ROW_CELLS + 1);
     let near = u16::from(one);
     let far = u16::from(two);
-    if at(ties, i * ROW_CELLS + 2) != name {
-        return false;
-    }
-    if are_equal(first, second, near, far) {
-        return true;
-    }
-    are_equal(first, second, far, near)
+    at(ties, i * ROW_CELLS + 2) == name
+        && (first == near && second == far || first == far && second == near)
 }
 
 // A tie is among the first rows.
 pub fn tie_known(ties: &[u16], count: u16, one: u8, two: u8, name: u16) -> bool
     ensures { result ≡ any (tie_is one two name) (rows (tie_at ties.now) count 0) }
 {
-    let n = usize::from(count);
-    let mut i = 0;
-    while i < n {
+    for i in 0..usize::from(count) {
         if tie_is(ties, i, one, two, name) {
             return true;
         }
-        i += 1;
     }
     false
 }
@@ -55,22 +40,17 @@ fn subtype_is(subtypes: &[u16], i: usize, loader: u8, low: u16, high: u16) -> bo
     requires { i < short_range }
     ensures { result ≡ subtype_is loader (note low high) (subtype_at subtypes.now i) }
 {
-    let first = at(subtypes, i * ROW_CELLS + 1);
-    let second = at(subtypes, i * ROW_CELLS + 2);
-    if are_equal(first, second, low, high) {
-        at(subtypes, i * ROW_CELLS) == u16::from(loader)
-    } else {
-        false
-    }
+    let row = i * ROW_CELLS;
+    at(subtypes, row + 1) == low
+        && at(subtypes, row + 2) == high
+        && at(subtypes, row) == u16::from(loader)
 }
 
 // A subtype constraint is among the first rows. The last are looked at first: a file's notes repeat those that it posted a moment ago.
 pub fn subtype_known(subtypes: &[u16], count: u16, loader: u8, low: u16, high: u16) -> bool
     ensures { result ≡ any (subtype_is loader (note low high)) (rows (subtype_at subtypes.now) count 0) }
 {
-    let mut i = usize::from(count);
-    while 0 < i {
-        i -= 1;
+    for i in (0..usize::from(count)).rev() {
         if subtype_is(subtypes, i, loader, low, high) {
             return true;
         }

@@ -3,53 +3,39 @@ ghost use Rattle.std.specs.Prelude.{◌≡◌, ◌-◌, ◌<◌};
 ghost use Rattle.definition.specs.Numbers.{short_range};
 ghost use Rattle.definition.specs.Lists.{rows};
 ghost use Rattle.definition.specs.Tables.{number_at};
-ghost use Rattle.cells.specs.Held.{Held};
 ghost use Rattle.rows.specs.Numbers.{standing, numbers_fit};
 
-use cells::{at, held};
-use definition::numbers::{
-    COUNT_SUBTYPES, COUNT_TIES, SHORT_RANGE, SUBTYPE_NUMBERS_CELL, TIE_NUMBERS_CELL,
-};
+use cells::at;
+use definition::numbers::{COUNT_SUBTYPES, COUNT_TIES, SUBTYPE_NUMBERS_CELL, TIE_NUMBERS_CELL};
 
-// What stands where there is no row: a number that no row has.
-const NO_NUMBER: usize = 2 * SHORT_RANGE as usize;
-
-// The number of row i of n, or one that no row has. Rows that the table doesn't hold have 0.
-fn number_at(counts: &[u16], first: usize, held: usize, n: usize, i: usize) -> usize
-    requires { (first < short_range) × Held counts.now first n held }
+// The number of row i of n, none past the last. A row that the table doesn't hold has 0.
+fn number_at(counts: &[u16], first: usize, n: usize, i: usize) -> Option<usize>
+    requires { (first < short_range) × (n < short_range) }
     ensures { result ≡ standing (rows (number_at first counts.now) (n - i) i) }
 {
-    if i < held {
-        return usize::from(counts[first + i]);
+    if i < n {
+        Some(usize::from(at(counts, first + i)))
+    } else {
+        None
     }
-    if i < n { 0 } else { NO_NUMBER }
 }
 
-// Each row is read once, and each number compared with the next of both tables, so at most 512 rows are read, a store's counts being within their limits.
+// The next number is looked for in the next row of both tables, so at most 512 rows are read, a store's counts being within their limits.
 pub fn numbers_fit(counts: &[u16]) -> bool
     ensures { result ≡ numbers_fit counts.now }
 {
     let ties = usize::from(at(counts, COUNT_TIES));
     let subtypes = usize::from(at(counts, COUNT_SUBTYPES));
-    let ties_held = held(counts, TIE_NUMBERS_CELL, ties);
-    let subtypes_held = held(counts, SUBTYPE_NUMBERS_CELL, subtypes);
     let mut t = 0;
     let mut s = 0;
-    let mut k = 0;
-    let mut tie = number_at(counts, TIE_NUMBERS_CELL, ties_held, ties, 0);
-    let mut subtype = number_at(counts, SUBTYPE_NUMBERS_CELL, subtypes_held, subtypes, 0);
-    loop {
-        if tie == k {
+    for k in 0..ties + subtypes {
+        if number_at(counts, TIE_NUMBERS_CELL, ties, t) == Some(k) {
             t += 1;
-            k += 1;
-            tie = number_at(counts, TIE_NUMBERS_CELL, ties_held, ties, t);
-            continue;
+        } else if number_at(counts, SUBTYPE_NUMBERS_CELL, subtypes, s) == Some(k) {
+            s += 1;
+        } else {
+            return false;
         }
-        if subtype != k {
-            return k == ties + subtypes;
-        }
-        s += 1;
-        k += 1;
-        subtype = number_at(counts, SUBTYPE_NUMBERS_CELL, subtypes_held, subtypes, s);
     }
+    true
 }

@@ -4,4 +4,4 @@ use Rattle.frames.proofs.field.Goals as goal
 
 pub returns : goal.returns
 unfolding field_at
-returns c = rw (← c.wide32.ensures.0, ← c.from.ensures) c.pair.ensures
+returns c = rw (← c.from.ensures) c.pair.ensures

@@ -4,4 +4,4 @@ use Rattle.frames.proofs.operand.Goals as goal
 
 pub returns : goal.returns
 unfolding operand_at
-returns c = rw (← c.wide32.ensures.0, ← c.wide32-2.ensures.0) c.pair.ensures
+returns c = c.pair.ensures

@@ -5,10 +5,10 @@ use Rattle.definition.specs.Instructions.{pick}
 use Rattle.definition.specs.Tables.{value_of}
 use Rattle.frames.proofs.write_initial.Goals as goal
 
-pub returns-then-name-eq-NAME_INT : goal.returns-then-name-eq-NAME_INT
+pub returns : goal.returns
 unfolding initial_of pick value_of
-returns-then-name-eq-NAME_INT c = rw (c.write_field.ensures, eq-eqb _ _ c.if-name-eq-NAME_INT.true)
-
-pub returns-else-name-eq-NAME_INT : goal.returns-else-name-eq-NAME_INT
-unfolding initial_of pick value_of
-returns-else-name-eq-NAME_INT c = rw (c.write_field-else-name-eq-NAME_INT.ensures, ne_eqb _ _ c.if-name-eq-NAME_INT.false)
+returns c =
+    elim c.if-name-eq-NAME_INT.branch [
+      | goal.then-name-eq-NAME_INT w ↦ rw (c.write_field.ensures, w.kind-is, eq-eqb _ _ w.if-name-eq-NAME_INT.true)
+      | goal.else-name-eq-NAME_INT w ↦ rw (c.write_field.ensures, w.kind-is, ne_eqb _ _ w.if-name-eq-NAME_INT.false)
+    ]

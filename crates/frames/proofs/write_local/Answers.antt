@@ -6,4 +6,4 @@ use Rattle.frames.proofs.write_local.Goals as goal
 
 pub returns : goal.returns
 unfolding put_local
-returns c = rw (c.write_pair.ensures, c.wide32.ensures.0, c.from.ensures) (sym (put_value-cells _ _ _ _))
+returns c = rw (c.write_pair.ensures, c.from.ensures) (sym (put_value-cells _ _ _ _))

@@ -6,4 +6,4 @@ use Rattle.frames.proofs.write_operand.Goals as goal
 
 pub returns : goal.returns
 unfolding put_operand
-returns c = rw (c.write_pair.ensures, c.wide32.ensures.0, c.wide32-2.ensures.0) (sym (put_value-cells _ _ _ _))
+returns c = rw (c.write_pair.ensures) (sym (put_value-cells _ _ _ _))

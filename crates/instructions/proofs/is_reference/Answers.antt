@@ -1,7 +1,7 @@
 -- Cells hold a reference just if they hold null or an object.
-use Rattle.std.proofs.Common.{eq-eqb, ne_eqb}
-use Rattle.instructions.specs.Operands.{is_reference}
+use borrow.Author.Tests.{eq-eqb, ne_eqb}
 use Rattle.definition.specs.Instructions.{pick}
+use Rattle.instructions.specs.Operands.{is_reference}
 use Rattle.instructions.proofs.is_reference.Goals as goal
 
 pub returns-then-v-eq-KIND_OBJECT : goal.returns-then-v-eq-KIND_OBJECT

@@ -2,24 +2,23 @@
 use mathlib.Core.Path.{sym, ap, ◌∙◌}
 use native.Mathlib.Omega.{arith}
 use Rattle.classfile.specs.Lists.{find-here, find-later, find-end, find-start}
-use Rattle.classfile.specs.Reading.{quick_fields, field_found}
+use Rattle.cells.specs.Optional.{optional}
+use Rattle.classfile.specs.Reading.{quick_fields}
 use Rattle.classfile.proofs.fields.find_field.Goals as goal
 
 pub loop-i-init : goal.loop-i-init
 unfolding quick_fields
-loop-i-init c = (omega arith, rw c.field_count-n.ensures (find-start _ _ _))
+loop-i-init c = rw c.field_count-i-end.ensures (find-start _ _ _)
 
 pub returns-then-is_field : goal.returns-then-is_field
-unfolding field_found
 returns-then-is_field c =
     let found = sym c.is_field.ensures ∙ c.if-is_field.true in
-    ap field_found (sym (find-here _ _ _ _ c.loop-i-test.true found) ∙ c.loop-i.invariant.1)
+    ap optional (sym (find-here _ _ _ _ c.loop-i-test.true found) ∙ c.loop-i.invariant)
 
 pub loop-i-preserved : goal.loop-i-preserved
 loop-i-preserved c =
     let other = sym c.is_field.ensures ∙ c.if-is_field.false in
-    (omega arith, sym (find-later _ _ _ _ c.loop-i-test.true other) ∙ c.loop-i.invariant.1)
+    sym (find-later _ _ _ _ c.loop-i-test.true other) ∙ c.loop-i.invariant
 
 pub returns : goal.returns
-unfolding field_found
-returns c = ap field_found (sym (find-end _ _ _ _ c.loop-i-test.false) ∙ c.loop-i.invariant.1)
+returns c = ap optional (sym (find-end _ _ _ _ c.loop-i-test.false) ∙ c.loop-i.invariant)

@@ -7,8 +7,4 @@ use Rattle.classfile.proofs.fields.find_field.Given as goal
 
 abbrev pub invariant-loop-i : goal.invariant-loop-i
 invariant-loop-i l =
-    (l.i ≤ l.n)
-    × (shift l.i (index_of (field_is l.name l.type_name) (rows (field_in l.bytes) (l.n - l.i) l.i)) ≡ index_of (field_is l.name l.type_name) (quick_fields l.bytes))
-
-abbrev pub decreases-loop-i : goal.decreases-loop-i
-decreases-loop-i l = l.n - l.i
+    shift l.i (index_of (field_is l.name l.type_name) (rows (field_in l.bytes) (l.i-end - l.i) l.i)) ≡ index_of (field_is l.name l.type_name) (quick_fields l.bytes)

@@ -5,9 +5,6 @@ use Rattle.layout.specs.Places.{any-hit, any-on, any-end}
 use Rattle.classfile.specs.Reading.{field_named}
 use Rattle.classfile.proofs.fields.named_from.Goals as goal
 
-pub loop-i-init : goal.loop-i-init
-loop-i-init c = rw c.field_count-n.ensures
-
 pub returns-then-field_name-name : goal.returns-then-field_name-name
 unfolding field_named
 returns-then-field_name-name c =

@@ -6,7 +6,4 @@ use Rattle.classfile.proofs.fields.named_from.Given as goal
 
 abbrev pub invariant-loop-i : goal.invariant-loop-i
 invariant-loop-i l =
-    any (field_named l.name) (rows (field_in l.bytes) (l.n - l.i) l.i) ≡ any (field_named l.name) (rows (field_in l.bytes) (field_count l.bytes - l.first) l.first)
-
-abbrev pub decreases-loop-i : goal.decreases-loop-i
-decreases-loop-i l = l.n - l.i
+    any (field_named l.name) (rows (field_in l.bytes) (l.i-end - l.i) l.i) ≡ any (field_named l.name) (rows (field_in l.bytes) (field_count l.bytes - l.first) l.first)

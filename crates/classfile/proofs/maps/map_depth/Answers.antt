@@ -4,4 +4,4 @@ use Rattle.classfile.proofs.maps.map_depth.Goals as goal
 
 pub returns : goal.returns
 unfolding map_depth
-returns c = rw (← c.wide32.ensures.0) c.at.ensures
+returns c = c.at.ensures

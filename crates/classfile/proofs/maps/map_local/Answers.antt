@@ -4,4 +4,4 @@ use Rattle.classfile.proofs.maps.map_local.Goals as goal
 
 pub returns : goal.returns
 unfolding type_at
-returns c = rw (← c.wide32.ensures.0, ← c.from.ensures) c.short_at.ensures
+returns c = rw (← c.from.ensures) c.short_at.ensures

@@ -7,12 +7,7 @@ use Rattle.classfile.proofs.maps.maps_end.Goals as goal
 
 pub loop-i-init : goal.loop-i-init
 unfolding map_place
-loop-i-init c = (omega arith, omega arith, omega arith)
+loop-i-init c = record { at = omega arith; low = omega arith }
 
 pub loop-i-preserved : goal.loop-i-preserved
-loop-i-preserved c = (omega arith, map_next _ _ _ _ c.loop-i.invariant.1 c.map_size-place.ensures.0, omega arith)
-
-pub returns : goal.returns
-returns c =
-    let last : c.loop-i.i ≡ c.map_count-n.result = omega arith in
-    (c.loop-i.invariant.1 ∙ ap (map_place _) (last ∙ c.map_count-n.ensures), omega arith)
+loop-i-preserved c = record { at = map_next _ _ _ _ c.loop-i.invariant.at c.map_size-place.ensures.0; low = omega arith }

@@ -18,5 +18,5 @@ returns c =
     let bytes = c.args.bytes.now in
     let place = c.args.place in
     let high = le-leb _ _ (rw c.version.ensures at c.if-version-lt-VERSION_TWO.false) in
-    rw (high, c.least.ensures, c.from.ensures, c.code_length.ensures, c.code_place.ensures.0)
+    rw (high, c.min.ensures, c.from.ensures, c.code_length.ensures, c.code_place.ensures.0)
     (clipped-rest bytes (code_place bytes place + code_length bytes place))

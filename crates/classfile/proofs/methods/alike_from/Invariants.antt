@@ -7,10 +7,8 @@ use Rattle.classfile.specs.Reading.{method_count, method_in, Placed}
 use Rattle.classfile.proofs.methods.alike_from.Given as goal
 
 abbrev pub invariant-loop-j : goal.invariant-loop-j
-invariant-loop-j l =
-    Placed l.bytes l.j l.place
-    × (shift l.j (index_of (alike l.s) (rows (method_in l.bytes) (l.n - l.j) l.j))
-    ≡ shift l.first (index_of (alike l.s) (rows (method_in l.bytes) (method_count l.bytes - l.first) l.first)))
-
-abbrev pub decreases-loop-j : goal.decreases-loop-j
-decreases-loop-j l = l.n - l.j
+invariant-loop-j l = record {
+  at : Placed l.bytes l.j l.place;
+  found : shift l.j (index_of (alike l.s) (rows (method_in l.bytes) (l.j-end - l.j) l.j))
+      ≡ shift l.first (index_of (alike l.s) (rows (method_in l.bytes) (method_count l.bytes - l.first) l.first));
+}

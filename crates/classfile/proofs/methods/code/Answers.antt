@@ -8,5 +8,5 @@ unfolding code_at
 returns c =
     let bytes = c.args.bytes.now in
     let place = c.args.place in
-    rw (c.least-end.ensures, c.least-start.ensures, c.from.ensures, c.code_length.ensures, c.code_place.ensures.0)
+    rw (c.min-end.ensures, c.min-start.ensures, c.from.ensures, c.code_length.ensures, c.code_place.ensures.0)
     (clipped bytes (code_place bytes place) (code_length bytes place))

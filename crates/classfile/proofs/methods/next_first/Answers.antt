@@ -9,7 +9,6 @@ use Rattle.classfile.proofs.methods.next_first.Goals as goal
 pub returns : goal.returns
 returns c =
     let bytes = c.args.bytes.now in
-    let at : c.wide32.result + 6 ≡ c.args.place + 6 = omega (arith, c.wide32.ensures.0) in
-    let l : c.short_at.result ≡ short_at bytes (c.args.place + 6) = c.short_at.ensures ∙ ap (short_at bytes) at in
+    let l : c.short_at.result ≡ short_at bytes (c.args.place + 6) = c.short_at.ensures in
     let n = next-first bytes c.args.place c.requires.0 in
-    (omega (arith, l, n, c.from.ensures), omega (arith, c.from.ensures.1))
+    (omega (arith, l, n, c.from.ensures), omega arith)

@@ -11,6 +11,6 @@ unfolding next_place code_end code_place result_place code_length
 returns c =
     let a = c.args in
     let bytes = a.bytes.now in
-    let start : c.wide32.result - 2 ≡ a.place + 2 + arguments_size bytes a.place + 2 = omega (arith, c.wide32.ensures.0, c.from.ensures, c.arguments_size.ensures.0) in
+    let start : c.args.place + 6 + c.from.result - 2 ≡ a.place + 2 + arguments_size bytes a.place + 2 = omega (arith, c.from.ensures, c.arguments_size.ensures.0) in
     let l : c.short_at-length.result ≡ code_length bytes a.place = c.short_at-length.ensures ∙ ap (short_at bytes) start in
     (omega (arith, l), omega (arith, l))

@@ -4,7 +4,4 @@ use Rattle.classfile.proofs.Laws.{placed-next, placed_at}
 use Rattle.classfile.proofs.methods.place_of.Goals as goal
 
 pub loop-i-preserved : goal.loop-i-preserved
-loop-i-preserved c = (omega arith, placed-next _ _ _ _ c.loop-i.invariant.1 c.next_later-place.ensures.0 c.next_later-place.ensures.1)
-
-pub returns : goal.returns
-returns c = placed_at _ _ _ _ c.loop-i.invariant.1 (omega arith)
+loop-i-preserved c = placed-next _ _ _ _ c.loop-i.invariant c.next_later-place.ensures.0 c.next_later-place.ensures.1

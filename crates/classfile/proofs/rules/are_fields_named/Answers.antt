@@ -8,7 +8,7 @@ use Rattle.classfile.proofs.rules.are_fields_named.Goals as goal
 
 pub loop-i-init : goal.loop-i-init
 unfolding named_fields
-loop-i-init c = rw c.field_count-n.ensures (ap every (rows_start _ _))
+loop-i-init c = rw c.field_count-i-end.ensures (ap every (rows_start _ _))
 
 pub returns-then-not-is_named_field : goal.returns-then-not-is_named_field
 returns-then-not-is_named_field c =

@@ -5,7 +5,4 @@ use Rattle.classfile.specs.Rules.{named_field, named_fields}
 use Rattle.classfile.proofs.rules.are_fields_named.Given as goal
 
 abbrev pub invariant-loop-i : goal.invariant-loop-i
-invariant-loop-i l = every (rows (named_field l.bytes) (l.n - l.i) l.i) ≡ named_fields l.bytes
-
-abbrev pub decreases-loop-i : goal.decreases-loop-i
-decreases-loop-i l = l.n - l.i
+invariant-loop-i l = every (rows (named_field l.bytes) (l.i-end - l.i) l.i) ≡ named_fields l.bytes

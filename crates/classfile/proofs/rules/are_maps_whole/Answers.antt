@@ -18,7 +18,12 @@ returns-then-maps-lt1 c = sym (every-fails _ _ (lt-leb _ _ c.if-maps-lt1.true))
 
 pub loop-i-init : goal.loop-i-init
 unfolding map_place least_offset
-loop-i-init c = (omega arith, omega arith, omega arith, omega arith, rw c.map_count-n.ensures (ap every (rows_start _ _)))
+loop-i-init c = record {
+  at = omega arith;
+  below = omega arith;
+  least = omega arith;
+  whole = rw c.map_count-i-end.ensures (ap every (rows_start _ _));
+}
 
 pub returns-then-not-is_whole_map : goal.returns-then-not-is_whole_map
 unfolding whole_maps whole_map_in
@@ -28,23 +33,22 @@ returns-then-not-is_whole_map c =
     let one = le-leb _ _ c.if-maps-lt1.false in
     sym
     (every_first _ _ one
-    ∙ every-fails _ _ (sym at.invariant.4 ∙ every-not _ _ _ c.loop-i-test.true (rw (← at.invariant.1, ← at.invariant.3) broken)))
+    ∙ every-fails _ _ (sym at.invariant.whole ∙ every-not _ _ _ c.loop-i-test.true (rw (← at.invariant.at, ← at.invariant.least) broken)))
 
 pub loop-i-preserved : goal.loop-i-preserved
 unfolding whole_map_in
 loop-i-preserved c =
     let at = c.loop-i in
-    let whole = sym c.is_whole_map.ensures ∙ c.if-not-is_whole_map.false in (
-      omega arith,
-      map_next _ _ _ _ at.invariant.1 c.map_size-place.ensures.0,
-      omega arith,
-      least-next _ _ _ _ at.invariant.1 (c.from-low.ensures ∙ c.map_offset.ensures),
-      sym (every_more _ _ _ c.loop-i-test.true (rw (← at.invariant.1, ← at.invariant.3) whole)) ∙ at.invariant.4,
-    )
+    let whole = sym c.is_whole_map.ensures ∙ c.if-not-is_whole_map.false in record {
+      at = map_next _ _ _ _ at.invariant.at c.map_size-place.ensures.0;
+      below = omega arith;
+      least = least-next _ _ _ _ at.invariant.at (c.from-low.ensures ∙ c.map_offset.ensures);
+      whole = sym (every_more _ _ _ c.loop-i-test.true (rw (← at.invariant.at, ← at.invariant.least) whole)) ∙ at.invariant.whole;
+    }
 
 pub returns : goal.returns
 unfolding whole_maps
 returns c =
     let at = c.loop-i in
     let one = le-leb _ _ c.if-maps-lt1.false in
-    sym (every_first _ _ one ∙ every_first _ _ (sym at.invariant.4 ∙ every-end _ _ _ c.loop-i-test.false) ∙ true-every [] tt)
+    sym (every_first _ _ one ∙ every_first _ _ (sym at.invariant.whole ∙ every-end _ _ _ c.loop-i-test.false) ∙ true-every [] tt)

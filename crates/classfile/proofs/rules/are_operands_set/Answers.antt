@@ -9,7 +9,7 @@ use Rattle.classfile.proofs.rules.are_operands_set.Goals as goal
 
 pub loop-i-init : goal.loop-i-init
 unfolding operands_set
-loop-i-init c = rw c.map_depth-n.ensures (ap every (rows_start _ _))
+loop-i-init c = rw c.map_depth-i-end.ensures (ap every (rows_start _ _))
 
 pub returns-then-map_operand-lt1 : goal.returns-then-map_operand-lt1
 unfolding type_set

@@ -9,19 +9,19 @@ use Rattle.classfile.proofs.rules.is_field_doubled.Goals as goal
 
 pub loop-i-init : goal.loop-i-init
 unfolding quick_fields
-loop-i-init c = rw c.field_count-n.ensures (ap (doubled same_field) (rows_start _ _))
+loop-i-init c = rw c.field_count-i-end.ensures (ap (doubled same_field) (rows_start _ _))
 
 pub returns-then-named_from : goal.returns-then-named_from
 unfolding same_field field_named
 returns-then-named_from c =
-    let count = c.field_count-n.ensures in
+    let count = c.field_count-i-end.ensures in
     let later = sym (rw c.field_name.ensures at c.named_from.ensures) ∙ c.if-named_from.true in
     sym (doubled-row _ _ _ _ c.loop-i-test.true (rw count later)) ∙ c.loop-i.invariant
 
 pub loop-i-preserved : goal.loop-i-preserved
 unfolding same_field field_named
 loop-i-preserved c =
-    let count = c.field_count-n.ensures in
+    let count = c.field_count-i-end.ensures in
     let never = sym (rw c.field_name.ensures at c.named_from.ensures) ∙ c.if-named_from.false in
     sym (doubled-more _ _ _ _ c.loop-i-test.true (rw count never)) ∙ c.loop-i.invariant
 

@@ -11,25 +11,24 @@ use Rattle.classfile.proofs.rules.is_method_doubled.Goals as goal
 
 pub loop-j-init : goal.loop-j-init
 unfolding quick_methods
-loop-j-init c = (omega arith, c.first_place-place.ensures, rw c.method_count-n.ensures (ap (doubled same_method) (rows_start _ _)))
-
-pub is_repeated-requires : goal.is_repeated-requires
-is_repeated-requires c = (c.loop-j.invariant.1, omega arith)
+loop-j-init c = record {
+  at = c.first_place-place.ensures;
+  twice = rw c.method_count-j-end.ensures (ap (doubled same_method) (rows_start _ _));
+}
 
 pub returns-then-is_repeated : goal.returns-then-is_repeated
 returns-then-is_repeated c =
-    let count = c.method_count-n.ensures in
+    let count = c.method_count-j-end.ensures in
     let later = sym c.is_repeated.ensures ∙ c.if-is_repeated.true in
-    sym (doubled-row _ _ _ _ c.loop-j-test.true (rw count later)) ∙ c.loop-j.invariant.2
+    sym (doubled-row _ _ _ _ c.loop-j-test.true (rw count later)) ∙ c.loop-j.invariant.twice
 
 pub loop-j-preserved : goal.loop-j-preserved
 loop-j-preserved c =
-    let count = c.method_count-n.ensures in
-    let never = sym c.is_repeated.ensures ∙ c.if-is_repeated.false in (
-      omega arith,
-      placed-next _ _ _ _ c.loop-j.invariant.1 c.next_place-place.ensures.0 c.next_place-place.ensures.1,
-      sym (doubled-more _ _ _ _ c.loop-j-test.true (rw count never)) ∙ c.loop-j.invariant.2,
-    )
+    let count = c.method_count-j-end.ensures in
+    let never = sym c.is_repeated.ensures ∙ c.if-is_repeated.false in record {
+      at = placed-next _ _ _ _ c.loop-j.invariant.at c.next_place-place.ensures.0 c.next_place-place.ensures.1;
+      twice = sym (doubled-more _ _ _ _ c.loop-j-test.true (rw count never)) ∙ c.loop-j.invariant.twice;
+    }
 
 pub returns : goal.returns
-returns c = sym (doubled-end _ _ _ _ c.loop-j-test.false) ∙ c.loop-j.invariant.2
+returns c = sym (doubled-end _ _ _ _ c.loop-j-test.false) ∙ c.loop-j.invariant.twice

@@ -7,17 +7,17 @@ use Rattle.classfile.proofs.rules.is_one_named.Goals as goal
 
 pub returns-then-short_at-lt1 : goal.returns-then-short_at-lt1
 returns-then-short_at-lt1 c =
-    let name = lt-leb _ _ (rw (c.short_at.ensures, c.wide32-start.ensures.0) at c.if-short_at-lt1.true) in
+    let name = lt-leb _ _ (rw (c.short_at.ensures) at c.if-short_at-lt1.true) in
     sym (one-named _ _ c.requires ∙ every-fails _ _ name)
 
 pub returns-then-short_at-lt1-2 : goal.returns-then-short_at-lt1-2
 returns-then-short_at-lt1-2 c =
-    let name = le-leb _ _ (rw (c.short_at.ensures, c.wide32-start.ensures.0) at c.if-short_at-lt1.false) in
-    let argument = lt-leb _ _ (rw (c.short_at-2.ensures, c.wide32-start.ensures.0) at c.if-short_at-lt1-2.true) in
+    let name = le-leb _ _ (rw (c.short_at.ensures) at c.if-short_at-lt1.false) in
+    let argument = lt-leb _ _ (rw (c.short_at-2.ensures) at c.if-short_at-lt1-2.true) in
     sym (one-named _ _ c.requires ∙ every_first _ _ name ∙ every-fails _ _ argument)
 
 pub returns : goal.returns
 returns c =
-    let name = le-leb _ _ (rw (c.short_at.ensures, c.wide32-start.ensures.0) at c.if-short_at-lt1.false) in
-    let argument = le-leb _ _ (rw (c.short_at-2.ensures, c.wide32-start.ensures.0) at c.if-short_at-lt1-2.false) in
-    rw (c.short_at-3.ensures, c.wide32-start.ensures.0) (sym (one-named _ _ c.requires ∙ every_first _ _ name ∙ every_first _ _ argument ∙ every-last _))
+    let name = le-leb _ _ (rw (c.short_at.ensures) at c.if-short_at-lt1.false) in
+    let argument = le-leb _ _ (rw (c.short_at-2.ensures) at c.if-short_at-lt1-2.false) in
+    rw (c.short_at-3.ensures) (sym (one-named _ _ c.requires ∙ every_first _ _ name ∙ every_first _ _ argument ∙ every-last _))

@@ -17,17 +17,17 @@ returns-then-from-low c = sym (every-fails _ _ (lt-leb _ _ (rw (c.from.ensures, 
 pub returns-then-from-gt-OPERAND_LIMIT : goal.returns-then-from-gt-OPERAND_LIMIT
 unfolding whole_map
 returns-then-from-gt-OPERAND_LIMIT c =
-    let many = lt-leb _ _ (rw (c.from-2.ensures, c.from.ensures, c.map_depth.ensures) at c.if-from-gt-OPERAND_LIMIT.true) in
+    let many = lt-leb _ _ (rw (c.from-2.ensures, c.map_depth.ensures) at c.if-from-gt-OPERAND_LIMIT.true) in
     sym (every_first _ _ ((let it : leb c.args.low (short_at c.args.maps.now c.args.place) ≡ true = le-leb _ _ (rw (c.from.ensures, c.map_offset.ensures) at c.if-from-low.false) in it)) ∙ every-fails _ _ many)
 
-pub returns-then-maps-wide32 : goal.returns-then-maps-wide32
+pub returns-then-maps-place : goal.returns-then-maps-place
 unfolding whole_map map_end
-returns-then-maps-wide32 c =
-    let past = lt-leb _ _ (rw (c.wide32.ensures.0, c.wide32-2.ensures.0, c.map_size.ensures.0) at c.if-maps-wide32.true) in
-    sym (every_first _ _ ((let it : leb c.args.low (short_at c.args.maps.now c.args.place) ≡ true = le-leb _ _ (rw (c.from.ensures, c.map_offset.ensures) at c.if-from-low.false) in it)) ∙ every_first _ _ ((let it : leb (map_depth c.args.maps.now c.args.place) 16 ≡ true = le-leb _ _ (rw (c.from-2.ensures, c.from.ensures, c.map_depth.ensures) at c.if-from-gt-OPERAND_LIMIT.false) in it)) ∙ every-fails _ _ past)
+returns-then-maps-place c =
+    let past = lt-leb _ _ (rw (c.map_size.ensures.0) at c.if-maps-place.true) in
+    sym (every_first _ _ ((let it : leb c.args.low (short_at c.args.maps.now c.args.place) ≡ true = le-leb _ _ (rw (c.from.ensures, c.map_offset.ensures) at c.if-from-low.false) in it)) ∙ every_first _ _ ((let it : leb (map_depth c.args.maps.now c.args.place) 16 ≡ true = le-leb _ _ (rw (c.from-2.ensures, c.map_depth.ensures) at c.if-from-gt-OPERAND_LIMIT.false) in it)) ∙ every-fails _ _ past)
 
 pub returns : goal.returns
 unfolding whole_map map_end
 returns c =
     rw c.are_operands_set.ensures
-    (sym (every_first _ _ ((let it : leb c.args.low (short_at c.args.maps.now c.args.place) ≡ true = le-leb _ _ (rw (c.from.ensures, c.map_offset.ensures) at c.if-from-low.false) in it)) ∙ every_first _ _ ((let it : leb (map_depth c.args.maps.now c.args.place) 16 ≡ true = le-leb _ _ (rw (c.from-2.ensures, c.from.ensures, c.map_depth.ensures) at c.if-from-gt-OPERAND_LIMIT.false) in it)) ∙ every_first _ _ ((let it : leb (map_end c.args.maps.now c.args.place) (length c.args.maps.now) ≡ true = le-leb _ _ (rw (c.wide32.ensures.0, c.wide32-2.ensures.0, c.map_size.ensures.0) at c.if-maps-wide32.false) in it)) ∙ every-last _))
+    (sym (every_first _ _ ((let it : leb c.args.low (short_at c.args.maps.now c.args.place) ≡ true = le-leb _ _ (rw (c.from.ensures, c.map_offset.ensures) at c.if-from-low.false) in it)) ∙ every_first _ _ ((let it : leb (map_depth c.args.maps.now c.args.place) 16 ≡ true = le-leb _ _ (rw (c.from-2.ensures, c.map_depth.ensures) at c.if-from-gt-OPERAND_LIMIT.false) in it)) ∙ every_first _ _ ((let it : leb (map_end c.args.maps.now c.args.place) (length c.args.maps.now) ≡ true = le-leb _ _ (rw (c.map_size.ensures.0) at c.if-maps-place.false) in it)) ∙ every-last _))

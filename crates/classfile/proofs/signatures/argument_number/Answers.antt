@@ -4,4 +4,4 @@ use Rattle.classfile.proofs.signatures.argument_number.Goals as goal
 
 pub returns : goal.returns
 unfolding argument_number
-returns c = rw (← c.wide32.ensures.0) c.at.ensures
+returns c = c.at.ensures

@@ -30,21 +30,18 @@ pub returns-then-s-lt1 : goal.returns-then-s-lt1
 unfolding is_named
 returns-then-s-lt1 c = rw (lt-leb _ _ c.if-s-lt1.true)
 
-pub loop-i-init : goal.loop-i-init
-loop-i-init c = refl
-
 pub returns-then-argument_at-lt1 : goal.returns-then-argument_at-lt1
 unfolding is_named
 returns-then-argument_at-lt1 c =
     let l = c.loop-i-test.true in
-    let n = c.argument_count-n.ensures in
+    let n = c.argument_count-i-end.ensures in
     let zero = lt-leb _ _ (rw c.argument_at.ensures at c.if-argument_at-lt1.true) in
     rw (le-leb _ _ c.if-s-lt1.false, ← c.loop-i.invariant, all-not (types_of c.args.s.arguments) c.loop-i.i (omega (arith, l, n)) zero)
 
 pub loop-i-preserved : goal.loop-i-preserved
 loop-i-preserved c =
     let l = c.loop-i-test.true in
-    let n = c.argument_count-n.ensures in
+    let n = c.argument_count-i-end.ensures in
     let set = le-leb _ _ (rw c.argument_at.ensures at c.if-argument_at-lt1.false) in
     sym (all_more (types_of c.args.s.arguments) c.loop-i.i (omega (arith, l, n)) set) ∙ c.loop-i.invariant
 
@@ -52,5 +49,5 @@ pub returns : goal.returns
 unfolding is_named
 returns c =
     let l = c.loop-i-test.false in
-    let n = c.argument_count-n.ensures in
+    let n = c.argument_count-i-end.ensures in
     rw (le-leb _ _ c.if-s-lt1.false, ← c.loop-i.invariant, all_end (types_of c.args.s.arguments) c.loop-i.i (omega (arith, l, n)))

@@ -8,6 +8,3 @@ use Rattle.classfile.proofs.signatures.is_named.Given as goal
 
 abbrev pub invariant-loop-i : goal.invariant-loop-i
 invariant-loop-i l = all (leb 1) (drop l.i (types_of l.s.arguments)) ≡ all (leb 1) (types_of l.s.arguments)
-
-abbrev pub decreases-loop-i : goal.decreases-loop-i
-decreases-loop-i l = l.n - l.i

@@ -11,11 +11,11 @@ pub returns-then-version-lt-VERSION_THREE : goal.returns-then-version-lt-VERSION
 unfolding arguments_at pick
 returns-then-version-lt-VERSION_THREE c =
     let low = lt-leb _ _ (rw c.version.ensures at c.if-version-lt-VERSION_THREE.true) in
-    rw (low, pick, ← c.wide32-start.ensures.0, ← c.short_at.ensures) refl
+    rw (low, pick, ← c.short_at.ensures) refl
 
 pub returns : goal.returns
 unfolding arguments_at pick
 returns c =
     let high = le-leb _ _ (rw c.version.ensures at c.if-version-lt-VERSION_THREE.false) in
-    let same : c.wide32-start.result + 2 + 1 ≡ c.args.place + 3 = omega (arith, c.wide32-start.ensures.0) in
+    let same : c.args.place + 2 + 1 ≡ c.args.place + 3 = omega arith in
     rw (high, pick) (rw (same, c.argument_number.ensures) at c.arguments_at.ensures)

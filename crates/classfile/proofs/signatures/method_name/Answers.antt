@@ -4,4 +4,4 @@ use Rattle.classfile.proofs.signatures.method_name.Goals as goal
 
 pub returns : goal.returns
 unfolding method_at quick_signature
-returns c = rw (← c.wide32.ensures.0) c.short_at.ensures
+returns c = c.short_at.ensures

@@ -9,5 +9,4 @@ returns c =
       c.short_at.ensures,
       c.short_at-2.ensures,
       c.short_at-3.ensures,
-      c.wide32-start.ensures.0,
     ) (sym (one_signature _ _ c.requires))

@@ -1,8 +1,8 @@
 -- The quote has no share; another task's is used up by as many objects as the limit.
-use mathlib.Core.Path.{◌≡◌, refl}
-use mathlib.Core.Logic.{◌≢◌}
+use Rattle.std.proofs.Math.Path.{◌≡◌, refl}
+use Rattle.std.specs.Prelude.{◌≢◌}
 use Prim.Native.Nat.{ℕ, zero, suc}
-use lib.Dec.{leb}
+use Rattle.std.proofs.Math.Dec.{leb}
 use Rattle.definition.specs.Numbers.{share_limit}
 use Rattle.frames.specs.Made.{used_share}
 use Rattle.frames.proofs.owners.is_share_used.Goals as goal
@@ -12,9 +12,9 @@ unfolding used_share
 other zero m h = absurd (h refl)
 other (suc j) m h = refl
 
-pub returns-then-task-eq0 : goal.returns-then-task-eq0
-unfolding used_share
-returns-then-task-eq0 c = rw c.if-task-eq0.true
+pub returns-then-task-ne0 : goal.returns-then-task-ne0
+returns-then-task-ne0 c = other _ _ c.if-task-ne0.true
 
-pub returns : goal.returns
-returns c = other _ _ c.if-task-eq0.false
+pub returns-else-task-ne0 : goal.returns-else-task-ne0
+unfolding used_share
+returns-else-task-ne0 c = rw c.if-task-ne0.false

@@ -10,4 +10,4 @@ returns-then-o-from c = rw (lt-ltb _ _ (rw (c.from.ensures, c.at.ensures) at c.i
 
 pub returns-else-o-from : goal.returns-else-o-from
 unfolding is_used pick
-returns-else-o-from c = rw (le-ltb _ _ (rw (c.from.ensures, c.at.ensures) at c.if-o-from.false))
+returns-else-o-from c = rw (le-ltb _ _ (rw (c.from.ensures, c.at.ensures) at c.if-o-from.false)) (le-ltb _ _ c.if-o-from.false)

@@ -4,4 +4,4 @@ use Rattle.frames.proofs.owners.owner.Goals as goal
 
 pub returns : goal.returns
 unfolding owner_at
-returns c = rw (← c.wide32.ensures.0) c.at.ensures
+returns c = c.at.ensures

@@ -5,15 +5,11 @@ use Rattle.rows.proofs.adding.add_subtype.Goals as goal
 
 pub returns-then-subtype_known : goal.returns-then-subtype_known
 returns-then-subtype_known c =
-    let all = let from = c.from-rows in
-    subtype-there _ _ _ _ _ _ (sym c.subtype_known.ensures ∙ c.if-subtype_known.true) from.ensures in record { value = all.0; subtypes_after = all.1 }
+    let all = subtype-there _ _ _ _ _ _ (sym c.subtype_known.ensures ∙ c.if-subtype_known.true) c.from-rows.ensures in
+    record { value = all.0; subtypes_after = all.1 }
 
 pub returns : goal.returns
 returns c =
-    let all = let put_three = c.put_three in
-    let from = c.from in
-    let if1 = c.if-subtype_known in
-    let subtype-known = c.subtype_known in
-    let from = c.from-rows in
-    subtype-new _ _ _ _ _ _ _ (sym subtype-known.ensures ∙ if1.false) from.ensures
-    (rw (from.ensures, from.ensures) at put_three.ensures) in record { value = all.0; subtypes_after = all.1 }
+    let written = rw (c.from-rows.ensures, c.from.ensures) at c.put_three.ensures in
+    let all = subtype-new _ _ _ _ _ _ _ (sym c.subtype_known.ensures ∙ c.if-subtype_known.false) c.from-rows.ensures written in
+    record { value = all.0; subtypes_after = all.1 }

@@ -1,13 +1,15 @@
 -- A row is the constraint if both names and the loader are.
-use mathlib.Core.Path.{sym, ◌∙◌}
-use Rattle.rows.proofs.Posted.{subtype-named, subtype-not}
+use Rattle.std.proofs.Common.{arith}
+use Rattle.std.proofs.lemmas.Grind.{common_steps}
+use Rattle.definition.specs.Loading.{subtype_is}
+use Rattle.definition.specs.Tables.{subtype_at}
 use Rattle.rows.proofs.adding.subtype_is.Goals as goal
+use Rattle.rows.proofs.adding.subtype_is.Goals.{then-at-low, else-at-low}
 
-pub returns-then-are_equal : goal.returns-then-are_equal
-returns-then-are_equal c =
-    rw (c.at.ensures, c.from.ensures)
-    (sym (subtype-named _ _ _ _ _ (sym (rw (c.at-first.ensures, c.at-second.ensures) at c.are_equal.ensures) ∙ c.if-are_equal.true)))
+pub returns-then-at-high : goal.returns-then-at-high
+unfolding subtype_is subtype_at
+returns-then-at-high c = elim c.if-at-low.branch [ then-at-low w ↦ grind (arith, common_steps) | else-at-low w ↦ grind (arith, common_steps) ]
 
-pub returns-else-are_equal : goal.returns-else-are_equal
-returns-else-are_equal c =
-    sym (subtype-not _ _ _ _ _ (sym (rw (c.at-first.ensures, c.at-second.ensures) at c.are_equal.ensures) ∙ c.if-are_equal.false))
+pub returns-else-at-high : goal.returns-else-at-high
+unfolding subtype_is subtype_at
+returns-else-at-high c = elim c.if-at-low.branch [ then-at-low w ↦ grind (arith, common_steps) | else-at-low w ↦ grind (arith, common_steps) ]

@@ -1,31 +1,23 @@
--- A row is a tie on another name, a tie of the loaders as given, or perhaps one of them turned round.
-use mathlib.Core.Path.{sym, ◌∙◌}
-use Rattle.rows.proofs.Posted.{tie-not, tie-straight, tie-turned}
+-- A row is the tie if it has the name, and the loaders as given or turned round.
+use Rattle.std.proofs.Common.{arith}
+use Rattle.std.proofs.lemmas.Grind.{common_steps}
+use Rattle.definition.specs.Constraints.{tie_is}
+use Rattle.definition.specs.Tables.{tie_at}
 use Rattle.rows.proofs.adding.tie_is.Goals as goal
+use Rattle.rows.proofs.adding.tie_is.Goals.{then-first-near, else-first-near}
 
-pub returns-then-at-name : goal.returns-then-at-name
-returns-then-at-name c = sym (tie-not _ _ _ _ _ (λ e. c.if-at-name.true (c.at.ensures ∙ e)))
+pub returns-then-second-far : goal.returns-then-second-far
+unfolding tie_is tie_at
+returns-then-second-far c = elim c.if-first-near.branch [ then-first-near w ↦ grind (arith, common_steps) | else-first-near w ↦ grind (arith, common_steps) ]
 
-pub returns-then-are_equal : goal.returns-then-are_equal
-returns-then-are_equal c =
-    let if1 = c.if-at-name in
-    let at163 = c.at in
-    let from82 = c.from-far in
-    let from = c.from-near in
-    let at162 = c.at-second in
-    let at = c.at-first in
-    sym (tie-straight _ _ _ _ _ (sym at163.ensures ∙ if1.false)
-    (sym (rw (at.ensures, at162.ensures, from.ensures, from82.ensures.0) at c.are_equal.ensures) ∙ c.if-are_equal.true))
+pub returns-then-first-far : goal.returns-then-first-far
+unfolding tie_is tie_at
+returns-then-first-far c = elim c.if-first-near.branch [ then-first-near w ↦ grind (arith, common_steps) | else-first-near w ↦ grind (arith, common_steps) ]
 
-pub returns : goal.returns
-returns c =
-    let equal = c.are_equal in
-    let if1 = c.if-at-name in
-    let at163 = c.at in
-    let from82 = c.from-far in
-    let from = c.from-near in
-    let at162 = c.at-second in
-    let at = c.at-first in
-    (rw (at.ensures, at162.ensures, from.ensures, from82.ensures.0) at c.are_equal-2.ensures)
-    ∙ sym (tie-turned _ _ _ _ _ (sym at163.ensures ∙ if1.false)
-    (sym (rw (at.ensures, at162.ensures, from.ensures, from82.ensures.0) at equal.ensures) ∙ c.if-are_equal.false))
+pub returns-else-first-far : goal.returns-else-first-far
+unfolding tie_is tie_at
+returns-else-first-far c = elim c.if-first-near.branch [ then-first-near w ↦ grind (arith, common_steps) | else-first-near w ↦ grind (arith, common_steps) ]
+
+pub returns-else-at-name : goal.returns-else-at-name
+unfolding tie_is tie_at
+returns-else-at-name c = grind (arith, common_steps)

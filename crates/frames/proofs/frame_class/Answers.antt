@@ -1,5 +1,0 @@
--- A frame's class is the first cell of its row.
-use Rattle.frames.proofs.frame_class.Goals as goal
-
-pub returns : goal.returns
-returns c = rw (← c.wide32.ensures.0) c.at.ensures
