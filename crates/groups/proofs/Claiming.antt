@@ -152,13 +152,13 @@ claim-long {firsts} {ups} {firsts'} {ups'} {key} {low} {r} (joins j e f u) = ap 
 
 -- A row's two loaders
 
-pub fits-one : (ties : List ℕ) (i x : ℕ) → x ≡ get_or ties (i * 3) 0 → 16 ≤ x → false ≡ tie_fits (tie_at ties i)
+pub fits-one : (ties : List ℕ) (i : ℕ) → 16 ≤ get_or ties (i * 3) 0 → false ≡ tie_fits (tie_at ties i)
 unfolding tie_fits tie_at every
-fits-one ties i x e h = rw (← e, le-ltb x 16 h, every) refl
+fits-one ties i h = rw (le-ltb (get_or ties (i * 3) 0) 16 h, every) refl
 
-pub fits-two : (ties : List ℕ) (i x y : ℕ) → x ≡ get_or ties (i * 3) 0 → y ≡ get_or ties (i * 3 + 1) 0 → x < 16 → ltb y 16 ≡ tie_fits (tie_at ties i)
+pub fits-two : (ties : List ℕ) (i : ℕ) → get_or ties (i * 3) 0 < 16 → ltb (get_or ties (i * 3 + 1) 0) 16 ≡ tie_fits (tie_at ties i)
 unfolding tie_fits tie_at every
-fits-two ties i x y e f h = rw (← e, f, lt-ltb x 16 h, every) (go (ltb (get_or ties (i * 3 + 1) 0) 16))
+fits-two ties i h = rw (lt-ltb (get_or ties (i * 3) 0) 16 h, every) (go (ltb (get_or ties (i * 3 + 1) 0) 16))
   where
     go : (t : Bool) → t ≡ elim t as (λ _. Bool) [ true ↦ true | false ↦ false ]
     go true = refl

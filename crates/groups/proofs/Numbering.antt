@@ -3,11 +3,11 @@ use mathlib.Core.Path.{◌≡◌, refl, sym, ap, subst, ◌∙◌}
 use mathlib.Core.Bool.{Bool, true, false, ◌&&◌}
 use mathlib.Core.Option.{some-injective}
 use mathlib.Core.List.{List, ◌∷◌, map}
-use Prim.Native.Nat.{ℕ, zero, suc, ◌+◌, ◌-◌, ◌<◌, ◌≤◌}
+use Prim.Native.Nat.{min, ℕ, zero, suc, ◌+◌, ◌-◌, ◌<◌, ◌≤◌}
 use native.Mathlib.Omega.{arith}
 use lib.ListN.{length, get_or, set, get_elem?}
 use lib.Dec.{leb}
-use borrow.Author.Tests.{eq-eqb, ne_eqb, lt-leb, le-leb}
+use borrow.Author.Tests.{eq-eqb, ne_eqb, lt-leb}
 use Rattle.definition.specs.Numbers.{tie_numbers_cell, groups_cell}
 use Rattle.definition.specs.Lists.{rows, all, same_list, write_rows}
 use Rattle.definition.specs.Tables.{tie_at, number_at, put_number}
@@ -15,7 +15,7 @@ use Rattle.definition.specs.Broken.{tie_fits}
 use Rattle.laws.specs.Groups.{group-at}
 use Rattle.layout.specs.Places.{rows-length, rows-there, rows_step, rows_none, rows_start}
 use Rattle.layout.specs.NumberedRows.{numbers-before}
-use Rattle.groups.specs.Lowest.{at_most, up_to, ties_at, RowGroups}
+use Rattle.groups.specs.Lowest.{up_to, ties_at, RowGroups}
 use Rattle.groups.specs.Laws.{there-row, groups_by}
 use Rattle.groups.specs.Numbered.{root_numbers, ties_fit, groups_fit, regrouped}
 
@@ -59,9 +59,8 @@ module _ (counts roots : List ℕ) (n : ℕ) where
 
 -- What is tested and written, by what is said of rows
 
-count-few : (n : ℕ) → n ≤ 256 → at_most 256 n ≡ n
-unfolding at_most
-count-few n h = rw (le-leb n 256 h, at_most) refl
+count-few : (n : ℕ) → n ≤ 256 → min n 256 ≡ n
+count-few n h = omega arith
 
 map_rows : {A B : Type 0} (f : A → B) (g : ℕ → A) (n i : ℕ) → rows (λ i. f (g i)) n i ≡ map f (rows g n i)
 unfolding rows
@@ -76,7 +75,7 @@ pub many-kept : (counts ties : List ℕ) (n : ℕ) → 256 < n → counts ≡ re
 unfolding regrouped
 many-kept counts ties n h = rw (lt-leb n 256 h, regrouped) refl
 
-module _ (counts ties : List ℕ) (n : ℕ) (few : n ≤ 256) {old new : List ℕ} (long : length old ≡ 256) {r : Bool} (told : RowGroups ties (at_most 256 n) old r new) where
+module _ (counts ties : List ℕ) (n : ℕ) (few : n ≤ 256) {old new : List ℕ} (long : length old ≡ 256) {r : Bool} (told : RowGroups ties (min n 256) old r new) where
   tells : RowGroups ties n old r new
   tells = subst (λ (x : ℕ). RowGroups ties x old r new) (count-few n few) told
 

@@ -10,10 +10,6 @@ use Rattle.definition.specs.Broken.{tie_fits}
 use Rattle.laws.specs.Groups.{one_of}
 use Rattle.groups.specs.Claims.{Loaders, Naming, Claimed}
 
--- a count, or the limit where it is more
-unfoldable pub at_most : ℕ → ℕ → ℕ
-at_most limit n = elim (leb n limit) [ true ↦ n | false ↦ limit ]
-
 -- the numbers below n
 abbrev pub up_to : ℕ → List ℕ
 up_to n = rows (λ i. i) n 0

@@ -39,10 +39,8 @@ pub(crate) fn claim_rows(ties: &[u16], n: usize, nodes: &[u8], firsts: &mut [u16
     requires { (n ≤ tie_limit) × (n * 3 ≤ length ties.now) × (length nodes.now ≡ tie_limit) × NodesOf (name_in ties.now) n nodes.now × ((i : ℕ) → i < n → Loaders ties.now i) × (n * loader_limit ≤ length firsts.old) × ((x : ℕ) → x < length firsts.old → get_or firsts.old x 0 ≡ 0) × (ups.old ≡ replicate tie_limit 65535) }
     ensures { AllClaimed ties.now n nodes.now ups.new }
 {
-    let mut i = 0;
-    while i < n {
+    for i in 0..n {
         let low = claim(firsts, ups, key_of(ties, nodes, 0, i), i);
         claim(firsts, ups, key_of(ties, nodes, 1, i), low);
-        i += 1;
     }
 }

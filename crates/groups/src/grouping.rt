@@ -1,17 +1,16 @@
 // The lowest row of each row's group.
-ghost use Rattle.std.specs.Prelude.{◌≡◌, ℕ, ◌+◌, ◌*◌, ◌<◌, ◌≤◌, length, get_or};
+ghost use Rattle.std.specs.Prelude.{◌≡◌, ℕ, ◌+◌, ◌*◌, ◌<◌, ◌≤◌, length, get_or, min, ◌++◌, drop};
 ghost use Rattle.definition.specs.Numbers.{tie_limit, loader_limit, ties_length};
 ghost use Rattle.definition.specs.Lists.{all};
 ghost use Rattle.definition.specs.Tables.{tie_at};
 ghost use Rattle.definition.specs.Groups.{groups_of};
 ghost use Rattle.definition.specs.Broken.{tie_fits};
 ghost use Rattle.groups.specs.Firsts.{NodesOf, name_in};
-ghost use Rattle.groups.specs.Lowest.{at_most, up_to, cells_of, ties_at, Room, RowGroups};
+ghost use Rattle.groups.specs.Lowest.{up_to, cells_of, ties_at, Room, RowGroups};
 
 use crate::claims::claim_rows;
 use crate::names::{ROW_LIMIT, number_few, number_names};
 use crate::uniting::list_roots;
-use cells::at;
 use definition::numbers::{LOADER_LIMIT, ROW_CELLS, TIE_LIMIT, TIES_LENGTH};
 
 const LOADERS: u16 = LOADER_LIMIT as u16;
@@ -23,39 +22,23 @@ const FEW_ROWS: usize = 16;
 
 const FEW_KEYS: usize = 256;
 
-// A count of rows, at most 256.
-fn at_most(count: u16) -> usize
-    ensures { (result ≡ at_most tie_limit count) × (result ≤ tie_limit) }
-{
-    if count <= TIE_LIMIT {
-        usize::from(count)
-    } else {
-        ROW_LIMIT
-    }
-}
-
 // Both loaders of a row are among those that there are.
 fn row_fits(ties: &[u16], i: usize) -> bool
     requires { (i < tie_limit) × (i * 3 + 2 < length ties.now) }
     ensures { result ≡ tie_fits (tie_at ties.now i) }
 {
     let row = i * ROW_CELLS;
-    if LOADERS <= ties[row] {
-        return false;
-    }
-    ties[row + 1] < LOADERS
+    ties[row] < LOADERS && ties[row + 1] < LOADERS
 }
 
 fn rows_fit(ties: &[u16], n: usize) -> bool
     requires { (n ≤ tie_limit) × (n * 3 ≤ length ties.now) }
     ensures { result ≡ all tie_fits (ties_at ties.now n) }
 {
-    let mut i = 0;
-    while i < n {
+    for i in 0..n {
         if !row_fits(ties, i) {
             return false;
         }
-        i += 1;
     }
     true
 }
@@ -88,6 +71,14 @@ fn list_groups(ties: &[u16], n: usize, roots: &mut [u16])
     }
 }
 
+// Puts the cells of a table in front of another's, in place of as many of its own.
+fn copy_cells(ties: &[u16], whole: &mut [u16])
+    requires { length ties.now ≤ length whole.old }
+    ensures { whole.new ≡ ties.now ++ drop (length ties.now) whole.old }
+{
+    whole[..ties.len()].copy_from_slice(ties);
+}
+
 // The groups of n rows if no loader is past the last; else nothing is written.
 fn group_whole(ties: &[u16], n: usize, roots: &mut [u16]) -> bool
     requires { (n ≤ tie_limit) × (n * 3 ≤ length ties.now) × (n ≤ length roots.old) }
@@ -100,24 +91,12 @@ fn group_whole(ties: &[u16], n: usize, roots: &mut [u16]) -> bool
     true
 }
 
-// A table with the cells of another, and 0 where that has none.
-fn copy_cells(ties: &[u16], whole: &mut [u16])
-    requires { length whole.old ≡ ties_length }
-    ensures { (i : ℕ) → i < ties_length → get_or whole.new i 0 ≡ get_or ties.now i 0 }
-{
-    let mut i = 0;
-    while i < TIES_LENGTH {
-        whole[i] = at(ties, i);
-        i += 1;
-    }
-}
-
 // The lowest row of each row's group, of as many ties as a count says and at most 256. Nothing is written, and the answer is no, where the table is too short
 // or a loader is past the last.
 pub fn group_rows(ties: &[u16], count: u16, roots: &mut [u16]) -> bool
-    ensures { RowGroups ties.now (at_most tie_limit count) roots.old result roots.new }
+    ensures { RowGroups ties.now (min count tie_limit) roots.old result roots.new }
 {
-    let n = at_most(count);
+    let n = usize::from(count.min(TIE_LIMIT));
     if n == 0 {
         return true;
     }

@@ -32,13 +32,11 @@ pub(crate) fn number_names(ties: &[u16], n: usize, blocks: &mut [u8], nodes: &mu
     ensures { NodesOf (name_in ties.now) n nodes.new }
 {
     let mut starts = [255u8; LOW_COUNT];
-    let mut p = 0;
-    while p < n {
+    for p in 0..n {
         let name = usize::from(ties[p * ROW_CELLS + 2]);
         let block = first_of(&mut starts, name % LOW_COUNT, p);
         let node = first_of(blocks, block * HIGH_COUNT + name / LOW_COUNT, p);
         nodes[p] = node as u8;
-        p += 1;
     }
 }
 
@@ -48,12 +46,10 @@ fn first_named(ties: &[u16], p: usize) -> usize
     ensures { First (name_in ties.now) p result }
 {
     let name = ties[p * ROW_CELLS + 2];
-    let mut q = 0;
-    while q < p {
+    for q in 0..p {
         if ties[q * ROW_CELLS + 2] == name {
             return q;
         }
-        q += 1;
     }
     p
 }
@@ -63,9 +59,7 @@ pub(crate) fn number_few(ties: &[u16], n: usize, nodes: &mut [u8])
     requires { (n ≤ tie_limit) × (n * 3 ≤ length ties.now) × (length nodes.old ≡ tie_limit) }
     ensures { NodesOf (name_in ties.now) n nodes.new }
 {
-    let mut p = 0;
-    while p < n {
+    for p in 0..n {
         nodes[p] = first_named(ties, p) as u8;
-        p += 1;
     }
 }

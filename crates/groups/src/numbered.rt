@@ -23,12 +23,10 @@ fn cells_fit(counts: &[u16], roots: &[u16], n: usize) -> bool
     requires { (n ≤ tie_limit) × (length roots.now ≡ tie_limit) }
     ensures { result ≡ same_list (rows (number_at groups_cell counts.now) n 0) (rows (root_numbers counts.now roots.now) n 0) }
 {
-    let mut i = 0;
-    while i < n {
+    for i in 0..n {
         if at(counts, GROUPS_CELL + i) != root_number(counts, roots, i) {
             return false;
         }
-        i += 1;
     }
     true
 }
@@ -38,9 +36,7 @@ fn write_cells(counts: &mut [u16], roots: &[u16], n: usize)
     requires { (n ≤ tie_limit) × (length roots.now ≡ tie_limit) × ((i : ℕ) → i < n → get_or roots.now i 0 < tie_limit) }
     ensures { counts.new ≡ write_rows (put_number groups_cell) (rows (root_numbers counts.old roots.now) n 0) 0 counts.old }
 {
-    let mut i = n;
-    while 0 < i {
-        i -= 1;
+    for i in (0..n).rev() {
         let number = root_number(counts, roots, i);
         put(counts, GROUPS_CELL + i, number);
     }

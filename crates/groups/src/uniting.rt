@@ -3,7 +3,6 @@ ghost use Rattle.std.specs.Prelude.{◌≡◌, ℕ, ◌<◌, ◌≤◌, length, 
 ghost use Rattle.groups.specs.Roots.{Root, Joined};
 ghost use Rattle.definition.specs.Numbers.{short_range, tie_limit};
 
-
 // Where the way down from a place ends.
 fn root(ups: &[u16], p: usize) -> usize
     requires { p < length ups.now }
@@ -46,9 +45,7 @@ pub(crate) fn list_roots(ups: &[u16], n: usize, roots: &mut [u16])
     requires { (n ≤ tie_limit) × (length ups.now ≡ tie_limit) × (n ≤ length roots.old) }
     ensures { (p : ℕ) → p < n → Root ups.now p (get_or roots.new p 0) }
 {
-    let mut p = 0;
-    while p < n {
+    for p in 0..n {
         roots[p] = root_of(ups, roots, p);
-        p += 1;
     }
 }

@@ -1,3 +1,4 @@
+-- The root of where the way has come to is that of the place.
 use Prim.Native.Nat.{ℕ, ◌≤◌}
 use mathlib.Core.Path.{◌≡◌}
 use lib.ListN.{get_or}
