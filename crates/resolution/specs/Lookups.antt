@@ -1,6 +1,7 @@
 -- What else the lookups answer: a class's name, a method's code, and tables of superclasses and slots.
 use Rattle.std.specs.Prelude.{◌≡◌, refl, true, false, ◌⊎◌, List, [], ℕ, zero, suc, ◌+◌, ◌≤◌, ◌<◌, length, get_or, set, ltb}
 use Rattle.std.proofs.Common.{sym, ap, ◌∙◌, inl, inr, zero-add, arith, length-set, take_all}
+use Rattle.std.specs.Prelude as Rust
 use Rattle.std.proofs.Math.Option.{Option, none, some}
 use Rattle.std.proofs.Math.Numerals.{add-one}
 use Rattle.std.proofs.Math.ListN.{get_elem?, get_or-eq_default}
@@ -29,17 +30,18 @@ unfoldable pub code_in : List Method → ℕ → List ℕ
 code_in ms j = elim (get_elem? ms j) [ none ↦ [] | some m ↦ m.code ]
 
 -- a method that was selected, as a value of the code
-unfoldable pub selection : Option Selected → Selection
-selection none = Selection.Unselected
-selection (some m) = Selection.Selected m.class m.place
+abbrev pub selection : Option Selected → Rust.Option Selection
+selection none = Rust.None
+selection (some m) = Rust.Some (record { class = m.class; place = m.place })
 
-pub selection-at : (o : Option Selected) (c j : ℕ) → selection o ≡ Selection.Selected c j → o ≡ some (record { class = c; place = j })
-unfolding selection
-selection-at none c j h = cc
-selection-at (some m) c j h = let p : m.class ≡ c = cc in let q : m.place ≡ j = cc in λ i. some (record { class = p i; place = q i })
+pub selection-at : (o : Option Selected) (m : Selection) → selection o ≡ Rust.Some m → o ≡ some (record { class = m.class; place = m.place })
+selection-at none m h = cc
+selection-at (some x) m h =
+    let p : x.class ≡ m.class = cc in
+    let q : x.place ≡ m.place = cc in
+    λ i. some (record { class = p i; place = q i })
 
-pub selection-absent : (o : Option Selected) → selection o ≡ Selection.Unselected → o ≡ none
-unfolding selection
+pub selection-absent : (o : Option Selected) → selection o ≡ Rust.None → o ≡ none
 selection-absent none h = refl
 selection-absent (some m) h = cc
 

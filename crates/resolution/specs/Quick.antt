@@ -11,30 +11,22 @@ use Rattle.definition.specs.Lists.{any, is_some, rows}
 use Rattle.definition.specs.Requests.{at}
 use Rattle.definition.specs.Instructions.{pick}
 use Rattle.definition.specs.Classes.{Base, Class, slot_is, super_of, loader_of, own_slots, has_field, methods_of}
-use Rattle.definition.specs.Tables.{Tables, ClassRow, class_row_at, entry_at}
+use Rattle.definition.specs.Tables.{Tables, tables, ClassRow, class_row_at, entry_at}
 use Rattle.laws.specs.Stable.{loader-is}
 use Rattle.layout.specs.Places.{rows-length, rows_at, rows-past}
 use Rattle.classfile.specs.Lists.{any-index}
 use Rattle.classfile.specs.Reading.{file_version, class_name, super_name, quick_fields, quick_methods, field_is, field_count, method_count, part_of}
 use Rattle.classfile.specs.Searches.{slot_of, own-index, own-slots, own-methods}
+use Rattle.std.specs.Option as Rust
+use Rattle.cells.specs.Optional.{optional}
 use Rattle.resolution.specs.Cached.{row_of, super_row}
-use Rattle.resolution.specs.declared.Found.{Found}
-use Rattle.resolution.specs.declared.Found.TheVariants.{At, Absent}
+use Rattle.resolution.specs.declared.Base as Tabled
 
--- an answer as a value of the code
-unfoldable pub found : Option ℕ → Found
-found none = Absent
-found (some n) = At n
-
-pub found_at : (o : Option ℕ) (n : ℕ) → found o ≡ At n → o ≡ some n
-unfolding found
-found_at none n h = cc
-found_at (some m) n h = cc
-
-pub found-absent : (o : Option ℕ) → found o ≡ Absent → o ≡ none
-unfolding found
-found-absent none h = refl
-found-absent (some m) h = cc
+-- whether there is one, as the code asks
+pub optional-is : {A : Type 0} (o : Option A) → Rust.is_some (optional o) ≡ is_some o
+unfolding is_some
+optional-is none = refl
+optional-is (some x) = refl
 
 -- the class of a row. Object has no file, and its name is 2
 unfoldable pub quick_class : List ℕ → ClassRow → Class
@@ -54,6 +46,18 @@ quick_base counts classes kept cache = record {
   classes = rows (λ c. quick_class kept (class_row_at classes c)) (get_or counts 0 0) 0;
   cache = rows (entry_at cache) (get_or counts 2 0) 0;
 }
+
+-- what tables stand for
+abbrev pub base_of : Tabled.Base → Base
+base_of t = quick_base t.counts.now t.classes.now t.kept.now t.cache.now
+
+-- with the other four tables
+abbrev pub tables_over : Tabled.Base → List ℕ → List ℕ → List ℕ → List ℕ → Tables
+tables_over t ties subtypes objects frames = tables t.counts.now t.classes.now t.kept.now t.cache.now ties subtypes objects frames
+
+-- a predicate on those tables and more
+abbrev pub over : {A : Type 1} → (List ℕ → List ℕ → List ℕ → List ℕ → A) → Tabled.Base → A
+over f t = f t.counts.now t.classes.now t.kept.now t.cache.now
 
 abbrev pub quick_of : Tables → Base
 quick_of t = quick_base t.counts t.classes t.kept t.cache

@@ -7,23 +7,21 @@ mod classes; // classes.rt: classes by their number: loader, file, version, name
 mod fields; // fields.rt: fields upward of a class, and the fields of its objects
 mod methods; // methods.rt: methods upward of a class, and their code
 
-pub use cache::find;
-pub use classes::{
-    file_of, fill_supers, is_below, is_class, loader_of, name_of, super_by, super_of, super_row,
-};
-pub use fields::{inherited, nearest_field, size_of, slot_of, slot_types};
-pub use methods::{code_of, select_method};
+pub use methods::code_of;
 
-// A number that was looked for: a class's, or the place of a field or a method.
+// The tables in which classes are looked up: the counts, the rows of classes, the kept files and the cache. `base_of` has the Base of the definitions that they
+// stand for.
 #[derive(Clone, Copy)]
-pub enum Found {
-    At(u32),
-    Absent,
+pub struct Base<'a> {
+    pub counts: &'a [u16],
+    pub classes: &'a [u16],
+    pub kept: &'a [u8],
+    pub cache: &'a [u16],
 }
 
-// The class that declares a selected method, and the method's place there.
+// A selected method: the class that declares it, and its place there.
 #[derive(Clone, Copy)]
-pub enum Selection {
-    Selected(u32, u32),
-    Unselected,
+pub struct Selection {
+    pub class: u32,
+    pub place: u32,
 }
