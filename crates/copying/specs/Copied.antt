@@ -4,7 +4,7 @@ use Rattle.std.proofs.Common.{sym, ◌∙◌, eq-eqb, ne_eqb}
 use Rattle.definition.specs.Tables.{Tables, tables}
 use Rattle.layout.specs.ReadBack.{Lengths}
 
-unfoldable pub copied : List ℕ → List ℕ → List ℕ
+unfoldable pub copied : {A : Type 0} → List A → List A → List A
 copied source target = elim (eqb (length source) (length target)) [ true ↦ source | false ↦ target ]
 
 abbrev pub copied_tables : Tables → Tables → Tables
@@ -12,11 +12,11 @@ copied_tables s t = tables
     (copied s.counts t.counts) (copied s.classes t.classes) (copied s.kept t.kept) (copied s.cache t.cache)
     (copied s.ties t.ties) (copied s.subtypes t.subtypes) (copied s.objects t.objects) (copied s.frames t.frames)
 
-pub copied-whole : (source target : List ℕ) → length source ≡ length target → copied source target ≡ source
+pub copied-whole : {A : Type 0} (source target : List A) → length source ≡ length target → copied source target ≡ source
 unfolding copied
 copied-whole source target e = rw (eq-eqb (length source) (length target) e, copied) refl
 
-pub copied_none : (source target : List ℕ) → (length source ≡ length target → ⊥) → copied source target ≡ target
+pub copied_none : {A : Type 0} (source target : List A) → (length source ≡ length target → ⊥) → copied source target ≡ target
 unfolding copied
 copied_none source target e = rw (ne_eqb (length source) (length target) e, copied) refl
 

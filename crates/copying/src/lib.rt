@@ -1,4 +1,4 @@
-// Tables copied into others of the same lengths: one function a width, and all eight.
+// Tables copied into others of the same lengths: one, and all eight.
 #![tactic(auto)]
 
 ghost use Rattle.std.specs.Prelude.{◌≡◌};
@@ -6,42 +6,11 @@ ghost use Rattle.definition.specs.Tables.{tables};
 ghost use Rattle.copying.specs.Copied.{copied, copied_tables};
 
 // Into a table of another length nothing is copied.
-pub fn copy8(source: &[u8], target: &mut [u8])
+pub fn copy<T: Copy>(source: &[T], target: &mut [T])
     ensures { target.new ≡ copied source.now target.old }
 {
-    if source.len() != target.len() {
-        return;
-    }
-    let mut i = 0;
-    while i < source.len() {
-        target[i] = source[i];
-        i += 1;
-    }
-}
-
-pub fn copy16(source: &[u16], target: &mut [u16])
-    ensures { target.new ≡ copied source.now target.old }
-{
-    if source.len() != target.len() {
-        return;
-    }
-    let mut i = 0;
-    while i < source.len() {
-        target[i] = source[i];
-        i += 1;
-    }
-}
-
-pub fn copy32(source: &[u32], target: &mut [u32])
-    ensures { target.new ≡ copied source.now target.old }
-{
-    if source.len() != target.len() {
-        return;
-    }
-    let mut i = 0;
-    while i < source.len() {
-        target[i] = source[i];
-        i += 1;
+    if source.len() == target.len() {
+        target.copy_from_slice(source);
     }
 }
 
@@ -66,12 +35,12 @@ pub fn fill(
 )
     ensures { tables counts.new classes.new kept.new cache.new ties.new subtypes.new objects.new frames.new ≡ copied_tables (tables new_counts.now new_classes.now new_kept.now new_cache.now new_ties.now new_subtypes.now new_objects.now new_frames.now) (tables counts.old classes.old kept.old cache.old ties.old subtypes.old objects.old frames.old) }
 {
-    copy16(new_counts, counts);
-    copy16(new_classes, classes);
-    copy8(new_kept, kept);
-    copy16(new_cache, cache);
-    copy16(new_ties, ties);
-    copy16(new_subtypes, subtypes);
-    copy32(new_objects, objects);
-    copy32(new_frames, frames);
+    copy(new_counts, counts);
+    copy(new_classes, classes);
+    copy(new_kept, kept);
+    copy(new_cache, cache);
+    copy(new_ties, ties);
+    copy(new_subtypes, subtypes);
+    copy(new_objects, objects);
+    copy(new_frames, frames);
 }

@@ -3,14 +3,14 @@ use Rattle.std.specs.Prelude.{◌≡◌, Bool, true, false, List, [], ◌∷◌,
 use Rattle.std.proofs.Math.Path.{refl, sym}
 use Rattle.std.proofs.Common.{subst, ◌∙◌, arith, add-one, eqb-true}
 use Rattle.std.proofs.Math.Option.{Option, none, some}
-use Rattle.definition.specs.Lists.{all}
+use Rattle.definition.specs.Lists.{all, is_some}
 use Rattle.definition.specs.Maybe.{◌>>=◌, need}
 use Rattle.definition.specs.Calls.{call_define, call_record, call_start, call_step, call_drop}
 use Rattle.definition.specs.Script.{Line, line, digit, digits, decimal, up_to, short, int, hex_digit, file, fields, grow, command}
 use Rattle.script.specs.Commands.{decoded, file_onto}
 use Rattle.script.specs.Parts.{space_from, Head, head_read, head_in, head_of, space-cut, space-none}
 use Rattle.script.specs.Numbers.{bind-none}
-use Rattle.script.specs.Files.{is_hex, hex_value, value_in, pairs-bad}
+use Rattle.script.specs.Files.{is_hex, pairs-bad}
 
 unfoldable pub with_head : Option Head → List ℕ → (ℕ → List ℕ → Option Line) → Option Line
 with_head none s f = none
@@ -67,7 +67,7 @@ int-spaced (b ∷ bs) i j e = step (eqb b 45) refl
     step false q = up_to-spaced 2147483647 (b ∷ bs) i j e
 
 hexes-spaced : (s : List ℕ) (i j : ℕ) → space_from i s ≡ some j → all is_hex s ≡ false
-unfolding space_from all is_hex hex_value value_in hex_digit ◌>>=◌ need
+unfolding space_from all is_some hex_digit ◌>>=◌ need
 hexes-spaced [] i j e = let z : ◌≡◌ {A = ℕ} 0 1 = cc in absurd (omega arith)
 hexes-spaced (b ∷ bs) i j e = step (eqb b 32) refl e (hexes-spaced bs (suc i) j)
   where

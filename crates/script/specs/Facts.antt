@@ -7,7 +7,7 @@ use Rattle.definition.specs.Maybe.{◌>>=◌, need}
 use Rattle.definition.specs.Lists.{is_some}
 use Rattle.definition.specs.Calls.{row_define, row_record, row_start, row_drop, row_sweep, row_try, row_take_back, Call, call_boot, call_rows, call_define, call_record, call_start, call_step, call_run, call_drop}
 use Rattle.definition.specs.Script.{Line, line, short, int, file, fields, command, read_line}
-use Rattle.script.specs.Parts.{Head, Field, NoField, head_of}
+use Rattle.script.specs.Parts.{Head, head_of}
 use Rattle.script.specs.Files.{quick_pairs, pairs-length, file-quick}
 use Rattle.script.specs.Calls.{with_head, drop_line, define_line, record_line, method_line, start_line, single_line, drop-line, define-line, record-line, start-line, no_line}
 use Rattle.script.specs.Lines.{line-long, line-one, line-joined, line-call}
@@ -36,11 +36,11 @@ unfolding ◌>>=◌
 then_some none f l e k = let z : ◌≡◌ {A = ℕ} 0 1 = cc in absurd (omega arith)
 then_some (some a) f l e k = k a refl e
 
-head-some : {P : Type 0} (h : Head) (s : List ℕ) (f : ℕ → List ℕ → Option Line) (l : Line) → with_head h s f ≡ some l
+head-some : {P : Type 0} (o : Option Head) (s : List ℕ) (f : ℕ → List ℕ → Option Line) (l : Line) → with_head o s f ≡ some l
     → ((n : ℕ) (t : List ℕ) → length t ≤ length s → f n t ≡ some l → P) → P
 unfolding with_head
-head-some NoField s f l e k = let z : ◌≡◌ {A = ℕ} 0 1 = cc in absurd (omega arith)
-head-some (Field n a) s f l e k = k n (drop a s) (omega (arith, length-drop a s)) e
+head-some none s f l e k = let z : ◌≡◌ {A = ℕ} 0 1 = cc in absurd (omega arith)
+head-some (some head) s f l e k = k head.number (drop head.rest s) (omega (arith, length-drop head.rest s)) e
 
 fact : (b n : ℕ) (c : Call) (l : Line) → Asked n c → line b c ≡ some l → Facts b n l
 fact b n c l a e = let same : record { letter = b; call = c } ≡ l = cc in

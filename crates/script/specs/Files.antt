@@ -1,29 +1,32 @@
 -- Hexadecimal read byte by byte, and its laws: digits in pairs are a file of the bytes that the pairs stand for, all else is no file.
-use Rattle.std.specs.Prelude.{◌≡◌, refl, Bool, true, false, ◌&&◌, ◌⊎◌, ◌≢◌, List, [], ◌∷◌, ℕ, zero, suc, ◌+◌, ◌-◌, ◌*◌, ◌/◌, ◌%◌, ◌<◌, ◌≤◌, length, get_or, set, take, drop, leb, ltb, eqb}
-use Rattle.std.proofs.Common.{sym, ap, ◌∙◌, inl, inr, arith, add-one, drop_of_length-le, take_all}
+use Rattle.std.specs.Prelude.{◌≡◌, ◌↔◌, IsTrue, EachIndex, slice_index, refl, Bool, true, false, ◌&&◌, ◌⊎◌, ◌≢◌, List, [], ◌∷◌, ℕ, zero, suc, ◌+◌, ◌-◌, ◌*◌, ◌/◌, ◌%◌, ◌<◌, ◌≤◌, length, get_or, set, take, drop, leb, ltb, eqb}
+use Rattle.std.proofs.Common.{sym, ap, ◌∙◌, inl, inr, arith, add-one, take_all}
 use Rattle.std.proofs.lemmas.Bool.{false≢true}
 use Rattle.std.proofs.Math.Option.{Option, none, some}
-use borrow.Author.Tests.{leb-true, le-leb, lt-leb, ltb-true, ltb-false, lt-ltb, le-ltb, eqb-true, eqb-false}
+use borrow.Author.Tests.{leb-true, le-leb, lt-leb, eqb-true, eqb-false}
+use Rattle.std.specs.Option.{unwrap_or}
+use Rattle.std.specs.Option as Std-Option
+use Rattle.std.specs.Prelude as Std
+use Rattle.cells.specs.Optional.{optional}
 use Rattle.definition.specs.Lists.{all, is_some, write_rows}
 use Rattle.definition.specs.Maybe.{◌>>=◌, need}
 use Rattle.definition.specs.Script.{hex_digit, hex_pairs, file}
 use Rattle.layout.specs.Cells.{cell-rows, rows-copy}
 use Rattle.script.specs.Numbers.{bind-none}
-use Rattle.script.specs.Parts.{next-byte}
 
--- a digit's value; 16 if it is no digit
+-- a digit's value; 0 if it is no digit
 unfoldable pub value_in : Option ℕ → ℕ
-value_in none = 16
+value_in none = 0
 value_in (some d) = d
 
 unfoldable pub hex_value : ℕ → ℕ
 hex_value b = value_in (hex_digit b)
 
-unfoldable pub is_hex : ℕ → Bool
-is_hex b = ltb (hex_value b) 16
+abbrev pub is_hex : ℕ → Bool
+is_hex b = is_some (hex_digit b)
 
 unfoldable pub pair_of : ℕ → ℕ → ℕ
-pair_of a b = (hex_value a * 16 + hex_value b) % 256
+pair_of a b = hex_value a * 16 + hex_value b
 
 unfoldable pub pair_value : List ℕ → ℕ → ℕ
 pair_value s i = pair_of (get_or s i 0) (get_or s (i + 1) 0)
@@ -35,6 +38,16 @@ quick_pairs (a ∷ []) = []
 quick_pairs (a ∷ b ∷ bs) = pair_of a b ∷ quick_pairs bs
 
 -- Laws of a digit
+
+pub value_or : (o : Option ℕ) → unwrap_or (optional o) 0 ≡ value_in o
+unfolding value_in
+value_or none = refl
+value_or (some d) = refl
+
+pub digit_some : (o : Option ℕ) → Std-Option.is_some (optional o) ≡ is_some o
+unfolding is_some
+digit_some none = refl
+digit_some (some d) = refl
 
 between : (a b c : ℕ) → (leb a b && leb b c) ≡ true → (a ≤ b) × (b ≤ c)
 between a b c e = step (leb a b) refl e
@@ -64,21 +77,34 @@ digit_low b d e = first (leb 48 b && leb b 57) refl e
     first true q e = lower 48 57 48 q e (omega arith)
     first false q e = second (leb 65 b && leb b 70) refl e
 
+pub value-low : (b : ℕ) → hex_value b < 16
+unfolding hex_value value_in
+value-low b = step (hex_digit b) refl
+  where
+    step : (o : Option ℕ) → hex_digit b ≡ o → value_in o < 16
+    step none q = omega arith
+    step (some d) q = digit_low b d q
+
+-- a byte's value, or 0
+pub value-taken : (r : Std.Option ℕ) (b n : ℕ) → r ≡ optional (hex_digit b) → n ≡ unwrap_or r 0 → n ≡ hex_value b
+unfolding hex_value
+value-taken r b n e q = q ∙ rw e (value_or (hex_digit b))
+
 pub digit-is : (b : ℕ) → is_hex b ≡ true → hex_digit b ≡ some (hex_value b)
-unfolding is_hex hex_value value_in
+unfolding is_some hex_value value_in
 digit-is b e = step (hex_digit b) e
   where
-    step : (o : Option ℕ) → ltb (value_in o) 16 ≡ true → o ≡ some (value_in o)
+    step : (o : Option ℕ) → is_some o ≡ true → o ≡ some (value_in o)
     step none e = absurd (false≢true e)
     step (some d) e = refl
 
 pub digit-none : (b : ℕ) → is_hex b ≡ false → hex_digit b ≡ none
-unfolding is_hex hex_value value_in
-digit-none b e = step (hex_digit b) refl e
+unfolding is_some
+digit-none b e = step (hex_digit b) e
   where
-    step : (o : Option ℕ) → hex_digit b ≡ o → ltb (value_in o) 16 ≡ false → o ≡ none
-    step none q e = refl
-    step (some d) q e = absurd (omega (arith, digit_low b d q, ltb-false d 16 e))
+    step : (o : Option ℕ) → is_some o ≡ false → o ≡ none
+    step none e = refl
+    step (some d) e = absurd (false≢true (sym e))
 
 inside : (a b c : ℕ) → a ≤ b → b ≤ c → (leb a b && leb b c) ≡ true
 inside a b c h k = rw (le-leb a b h, le-leb b c k)
@@ -90,48 +116,65 @@ over : (a b c : ℕ) → a ≤ b → c < b → (leb a b && leb b c) ≡ false
 over a b c h k = rw (le-leb a b h, lt-leb b c k)
 
 module _ (b : ℕ) where
-  pub value-digit : 48 ≤ b → b ≤ 57 → hex_value b ≡ b - 48
-  unfolding hex_value value_in hex_digit
+  pub value-digit : 48 ≤ b → b ≤ 57 → hex_digit b ≡ some (b - 48)
+  unfolding hex_digit
   value-digit h k = rw (inside 48 b 57 h k, hex_digit)
 
-  pub value-upper : 65 ≤ b → b ≤ 70 → hex_value b ≡ b - 55
-  unfolding hex_value value_in hex_digit
-  value-upper h k = rw (over 48 b 57 (omega arith) (omega arith), inside 65 b 70 h k, hex_digit)
+  pub value-upper : 65 ≤ b → b ≤ 70 → hex_digit b ≡ some (b - 65 + 10)
+  unfolding hex_digit
+  value-upper h k = let same : b - 55 ≡ b - 65 + 10 = omega arith in rw (over 48 b 57 (omega arith) (omega arith), inside 65 b 70 h k, hex_digit, same)
 
-  pub value-lower : 97 ≤ b → b ≤ 102 → hex_value b ≡ b - 87
-  unfolding hex_value value_in hex_digit need ◌>>=◌
-  value-lower h k = rw (over 48 b 57 (omega arith) (omega arith), over 65 b 70 (omega arith) (omega arith), inside 97 b 102 h k, hex_digit)
+  pub value-lower : 97 ≤ b → b ≤ 102 → hex_digit b ≡ some (b - 97 + 10)
+  unfolding hex_digit need ◌>>=◌
+  value-lower h k =
+      let same : b - 87 ≡ b - 97 + 10 = omega arith in
+      rw (over 48 b 57 (omega arith) (omega arith), over 65 b 70 (omega arith) (omega arith), inside 97 b 102 h k, hex_digit, same)
 
-  pub value-below : b < 48 → hex_value b ≡ 16
-  unfolding hex_value value_in hex_digit need ◌>>=◌
+  pub value-below : b < 48 → hex_digit b ≡ none
+  unfolding hex_digit need ◌>>=◌
   value-below h = rw (under 48 b 57 h, under 65 b 70 (omega arith), under 97 b 102 (omega arith), hex_digit)
 
-  pub value-first : 57 < b → b < 65 → hex_value b ≡ 16
-  unfolding hex_value value_in hex_digit need ◌>>=◌
+  pub value-first : 57 < b → b < 65 → hex_digit b ≡ none
+  unfolding hex_digit need ◌>>=◌
   value-first h k = rw (over 48 b 57 (omega arith) h, under 65 b 70 k, under 97 b 102 (omega arith), hex_digit)
 
-  pub value-second : 70 < b → b < 97 → hex_value b ≡ 16
-  unfolding hex_value value_in hex_digit need ◌>>=◌
+  pub value-second : 70 < b → b < 97 → hex_digit b ≡ none
+  unfolding hex_digit need ◌>>=◌
   value-second h k = rw (over 48 b 57 (omega arith) (omega arith), over 65 b 70 (omega arith) h, under 97 b 102 k, hex_digit)
 
-  pub value-above : 102 < b → hex_value b ≡ 16
-  unfolding hex_value value_in hex_digit need ◌>>=◌
+  pub value-above : 102 < b → hex_digit b ≡ none
+  unfolding hex_digit need ◌>>=◌
   value-above h = rw (over 48 b 57 (omega arith) (omega arith), over 65 b 70 (omega arith) (omega arith), over 97 b 102 (omega arith) h, hex_digit)
 
--- Laws of all digits, from place i on
+-- all bytes of a line are digits, or one of them is none
 
-module _ (s : List ℕ) (i : ℕ) where
-  pub hexes-bad : i < length s → 15 < hex_value (get_or s i 0) → all is_hex (drop i s) ≡ false
-  unfolding all is_hex
-  hexes-bad h v = rw (next-byte s i h, le-ltb (hex_value (get_or s i 0)) 16 (omega arith), all)
+hexes-each : (s : List ℕ) → EachIndex s (λ k. IsTrue (is_hex (slice_index s k))) → all is_hex s ≡ true
+unfolding all
+hexes-each [] h = refl
+hexes-each (b ∷ bs) h = step (is_hex b) (h 0 (omega arith)) (hexes-each bs (λ i k. h (suc i) (omega arith)))
+  where
+    step : (t : Bool) → IsTrue t → all is_hex bs ≡ true → elim t as (λ _. Bool) [ true ↦ all is_hex bs | false ↦ false ] ≡ true
+    step true h r = r
+    step false h r = absurd (false≢true h)
 
-  pub hexes-later : i < length s → hex_value (get_or s i 0) ≤ 15 → all is_hex (drop i s) ≡ all is_hex (drop (i + 1) s)
-  unfolding all is_hex
-  hexes-later h v = rw (next-byte s i h, lt-ltb (hex_value (get_or s i 0)) 16 (omega arith), all)
+hexes-every : (s : List ℕ) → all is_hex s ≡ true → EachIndex s (λ k. IsTrue (is_hex (slice_index s k)))
+unfolding all
+hexes-every [] e i h = absurd (omega arith)
+hexes-every (b ∷ bs) e i h = step (is_hex b) refl e (hexes-every bs) i h
+  where
+    step : (t : Bool) → is_hex b ≡ t → elim t as (λ _. Bool) [ true ↦ all is_hex bs | false ↦ false ] ≡ true → (all is_hex bs ≡ true → EachIndex bs (λ k. IsTrue (is_hex (slice_index bs k))))
+        → (i : ℕ) → i < length (b ∷ bs) → IsTrue (is_hex (slice_index (b ∷ bs) i))
+    step true q e r zero h = q
+    step true q e r (suc i) h = r e i (omega arith)
+    step false q e r i h = absurd (false≢true e)
 
-  pub hexes-end : length s ≤ i → all is_hex (drop i s) ≡ true
-  unfolding all
-  hexes-end h = rw (drop_of_length-le s h)
+pub hexes-are : (s : List ℕ) (t : Bool) → (IsTrue t ↔ EachIndex s (λ k. IsTrue (is_hex (slice_index s k)))) → t ≡ all is_hex s
+hexes-are s true e = sym (hexes-each s (e.0 refl))
+hexes-are s false e = step (all is_hex s) refl
+  where
+    step : (t : Bool) → all is_hex s ≡ t → false ≡ t
+    step true q = e.1 (hexes-every s q)
+    step false q = refl
 
 -- Laws of pairs
 
@@ -153,12 +196,8 @@ pairs-more : (a b : ℕ) (bs : List ℕ) → hex_pairs (a ∷ b ∷ bs) ≡ pair
 unfolding hex_pairs paired
 pairs-more a b bs = refl
 
-pair-whole : (a b : ℕ) → is_hex a ≡ true → is_hex b ≡ true → hex_value a * 16 + hex_value b ≡ pair_of a b
-unfolding is_hex pair_of
-pair-whole a b p q = omega (arith, ltb-true (hex_value a) 16 p, ltb-true (hex_value b) 16 q)
-
 pub pairs-all : (s : List ℕ) → all is_hex s ≡ true → length s % 2 ≡ 0 → hex_pairs s ≡ some (quick_pairs s)
-unfolding all hex_pairs quick_pairs
+unfolding all hex_pairs quick_pairs pair_of
 pairs-all [] h l = refl
 pairs-all (a ∷ []) h l = absurd (omega arith)
 pairs-all (a ∷ b ∷ bs) h l = step (is_hex a) (is_hex b) refl refl h (λ k. pairs-all bs k (omega arith))
@@ -167,7 +206,7 @@ pairs-all (a ∷ b ∷ bs) h l = step (is_hex a) (is_hex b) refl refl h (λ k. p
         → elim x as (λ _. Bool) [ true ↦ elim y as (λ _. Bool) [ true ↦ all is_hex bs | false ↦ false ] | false ↦ false ] ≡ true
         → (all is_hex bs ≡ true → hex_pairs bs ≡ some (quick_pairs bs)) → hex_pairs (a ∷ b ∷ bs) ≡ some (pair_of a b ∷ quick_pairs bs)
     step true true p q h r =
-        pairs-more a b bs ∙ rw (digit-is a p, digit-is b q, r h, ← pair-whole a b p q) (paired-some (hex_value a) (hex_value b) (quick_pairs bs))
+        pairs-more a b bs ∙ rw (digit-is a p, digit-is b q, r h) (paired-some (hex_value a) (hex_value b) (quick_pairs bs))
     step true false p q h r = absurd (false≢true h)
     step false y p q h r = absurd (false≢true h)
 
@@ -241,6 +280,12 @@ file-bad (b ∷ bs) h = pairs-bad (b ∷ bs) h
 
 pub file-all : (s : List ℕ) → length s ≢ 0 → length s % 2 ≡ 0 → all is_hex s ≡ true → file s ≡ some (quick_pairs s)
 file-all s h e a = file-pairs s h ∙ pairs-all s a e
+
+-- bytes of a file's number are a file if they are all digits
+pub file-said : (s : List ℕ) (t : Bool) → length s ≢ 0 → length s % 2 ≡ 0 → t ≡ all is_hex s → t ≡ is_some (file s)
+unfolding is_some
+file-said s true h k e = rw (file-all s h k (sym e))
+file-said s false h k e = rw (file-bad s (sym e))
 
 -- a file is the bytes of its pairs
 pub file-quick : (s : List ℕ) → is_some (file s) ≡ true → file s ≡ some (quick_pairs s)

@@ -5,6 +5,15 @@ ghost use Rattle.definition.specs.Answers.{refusal_details, step_details, detail
 use definition::numbers::WORD_WANTED;
 use definition::{Answer, Details, Refusal, Reply};
 
+// What an answer with no refusal and no details has.
+const NOTHING: Details = Details {
+    refusal: 0,
+    one: 0,
+    two: 0,
+    three: 0,
+};
+
+#[tactic(auto, unfolding(definition::specs::Answers::refusal_details))]
 fn refusal_details(task: u8, refusal: Refusal) -> Details
     ensures { result ≡ refusal_details task refusal }
 {
@@ -17,64 +26,49 @@ fn refusal_details(task: u8, refusal: Refusal) -> Details
         },
         Refusal::Word(number) => Details {
             refusal: number,
-            one: 0,
-            two: 0,
-            three: 0,
+            ..NOTHING
         },
     }
 }
 
+#[tactic(auto, unfolding(definition::specs::Answers::step_details))]
 fn step_details(turn: u8, answer: Answer) -> Details
     ensures { result ≡ step_details turn answer }
 {
     match answer {
-        Answer::Idle => Details {
-            refusal: 0,
-            one: 0,
-            two: 0,
-            three: 0,
-        },
+        Answer::Idle => NOTHING,
         Answer::Ran(task) => Details {
-            refusal: 0,
             one: 1,
             two: u32::from(task),
-            three: 0,
+            ..NOTHING
         },
         Answer::Finished(task, int) => Details {
-            refusal: 0,
             one: 2,
             two: u32::from(task),
             three: int,
+            ..NOTHING
         },
         Answer::Refused(refusal) => refusal_details(turn, refusal),
     }
 }
 
 // The numbers of a call's answer. `turn` is the task whose turn it was.
+#[tactic(auto, unfolding(definition::specs::Answers::details))]
 pub fn details_of(turn: u8, reply: Reply) -> Details
     ensures { result ≡ details turn reply }
 {
     match reply {
-        Reply::Accepted => Details {
-            refusal: 0,
-            one: 0,
-            two: 0,
-            three: 0,
-        },
+        Reply::Accepted => NOTHING,
         Reply::Defined(class) => Details {
-            refusal: 0,
             one: u32::from(class),
-            two: 0,
-            three: 0,
+            ..NOTHING
         },
         Reply::Stepped(answer) => step_details(turn, answer),
         Reply::RanFor(_, answer) => step_details(turn, answer),
         Reply::Denied(refusal) => refusal_details(0, refusal),
         Reply::Swept(freed) => Details {
-            refusal: 0,
             one: u32::from(freed),
-            two: 0,
-            three: 0,
+            ..NOTHING
         },
     }
 }

@@ -3,8 +3,8 @@ ghost use Rattle.std.specs.Prelude.{◌≡◌, take, drop};
 ghost use Rattle.cells.specs.Optional.{optional};
 ghost use Rattle.script.specs.Parts.{space_from, head_of};
 
-use crate::numbers::short_number;
 use crate::Head;
+use crate::numbers::short_number;
 
 fn before<'a>(s: &'a [u8], n: usize) -> &'a [u8]
     ensures { result.now ≡ take n s.now }

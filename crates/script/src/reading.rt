@@ -4,10 +4,10 @@ ghost use Rattle.definition.specs.Script.{file, fields, command, read_line};
 ghost use Rattle.script.specs.Commands.{Read, said};
 ghost use Rattle.script.specs.Calls.{record_line, method_line, start_line, drop_line, define_line, single_line};
 
+use crate::Command;
 use crate::fields::{after, first_field};
 use crate::files::{decode, is_file};
 use crate::numbers::{int_number, short_number};
-use crate::Command;
 
 fn read_record(s: &[u8]) -> Option<Command>
     ensures { result ≡ said (record_line s.now) }

@@ -5,7 +5,7 @@ use mathlib.Core.Option.{Option, none, some}
 use mathlib.Core.List.{List, [], ◌∷◌}
 use Prim.Native.Nat.{ℕ, zero, suc, ◌+◌, ◌*◌, ◌-◌, ◌≤◌, ◌<◌}
 use native.Mathlib.Omega.{arith}
-use lib.ListN.{length, length-replicate, get_or, replicate, set}
+use lib.ListN.{length, length-replicate, get_or, set}
 use lib.Seq.{ext_get_or, get_or-set_same, get_or-set_other}
 use lib.Dec.{eqb, leb, ltb}
 use borrow.Author.Tests.{ne_eqb, lt-ltb, le-ltb, le-leb, lt-leb, leb-true, eqb-true, eqb-false, not-false}
@@ -22,13 +22,13 @@ use Rattle.layout.specs.Places.{rows-get_d, rows-length, stack-length}
 use Rattle.layout.specs.Unbroken.{within-true}
 use Rattle.classfile.specs.Lists.{every_first, every-fails, every-last}
 use Rattle.classfile.specs.Reading.{field_count}
-use Rattle.resolution.specs.Quick.{found, quick_class, quick_base, quick_of, file_in, file-there, file-past, either}
+use Rattle.resolution.specs.Quick.{quick_class, quick_base, quick_of, file_in, file-there, file-past, either}
 use Rattle.resolution.specs.Cached.{super_by, super_row, super-by-row, super-row-within}
-use Rattle.resolution.specs.declared.Found.{Found}
 use Rattle.resolution.specs.Slots.{size_none, size-some, own-size, slots-past}
 use Rattle.resolution.specs.Unbroken.{part_none, quick-base}
-use Rattle.store.specs.declared.Fields.{Fields}
-use Rattle.store.specs.declared.Fields.TheVariants.{Count, Unfit}
+use Rattle.std.specs.Prelude as P
+use Rattle.cells.specs.Optional.{optional}
+use Rattle.std.specs.Prelude.{Some, None}
 use Rattle.store.specs.Tracing.{cell_at, super_end, trace_quick}
 use Rattle.store.specs.Checks.{file_fits, sources_fit, linked, linked_size, Blank, Sized, Ended, EndedTo, sized_object, object_sized, exists, value_in, local_in, object_in, frame_fit, links_fit, values_fit, readable, checks, sizes_of, Measured, Whole}
 use Rattle.store.specs.Same.{sources-first, checks-broken, zeros-at}
@@ -125,32 +125,32 @@ module _ (b : Base) (c : ℕ) where
   unfolding linked is_some
   linked-some p e = rw e (every_first _ _ refl ∙ every-last _)
 
-  pub size-unlinked : super_of b c ≡ none → linked_size b c ≡ Unfit
+  pub size-unlinked : super_of b c ≡ none → linked_size b c ≡ None
   unfolding linked_size
   size-unlinked e = rw (linked-none e, linked_size)
 
-  pub size_above : (p n : ℕ) → super_of b c ≡ some p → n ≡ size_of b c → 16 < n → linked_size b c ≡ Unfit
+  pub size_above : (p n : ℕ) → super_of b c ≡ some p → n ≡ size_of b c → 16 < n → linked_size b c ≡ None
   unfolding linked_size
   size_above p n e q l = rw (linked-some p e ∙ lt-leb (size_of b c) 16 (omega arith), linked_size)
 
-  pub size-within : (p n : ℕ) → super_of b c ≡ some p → n ≡ size_of b c → n ≤ 16 → linked_size b c ≡ Count n
+  pub size-within : (p n : ℕ) → super_of b c ≡ some p → n ≡ size_of b c → n ≤ 16 → linked_size b c ≡ Some n
   unfolding linked_size
   size-within p n e q l = rw (linked-some p e ∙ le-leb (size_of b c) 16 (omega arith), linked_size, q)
 
 -- what the answer says
-pub size-said : (b : Base) (c n : ℕ) → linked_size b c ≡ Count n → (linked b c ≡ true) × (n ≡ size_of b c)
+pub size-said : (b : Base) (c n : ℕ) → linked_size b c ≡ Some n → (linked b c ≡ true) × (n ≡ size_of b c)
 unfolding linked_size
 size-said b c n h = go (linked b c) refl h
   where
-    go : (t : Bool) → linked b c ≡ t → (elim t as (λ _. Fields) [ true ↦ Count (size_of b c) | false ↦ Unfit ]) ≡ Count n → (linked b c ≡ true) × (n ≡ size_of b c)
+    go : (t : Bool) → linked b c ≡ t → (elim t as (λ _. P.Option ℕ) [ true ↦ Some (size_of b c) | false ↦ None ]) ≡ Some n → (linked b c ≡ true) × (n ≡ size_of b c)
     go true e q = (e, cc)
     go false e q = let z : ◌≡◌ {A = ℕ} 0 1 = cc in absurd (omega arith)
 
-pub said-unfit : (b : Base) (c : ℕ) → linked_size b c ≡ Unfit → linked b c ≡ false
+pub said-unfit : (b : Base) (c : ℕ) → linked_size b c ≡ None → linked b c ≡ false
 unfolding linked_size
 said-unfit b c h = go (linked b c) refl h
   where
-    go : (t : Bool) → linked b c ≡ t → (elim t as (λ _. Fields) [ true ↦ Count (size_of b c) | false ↦ Unfit ]) ≡ Unfit → linked b c ≡ false
+    go : (t : Bool) → linked b c ≡ t → (elim t as (λ _. P.Option ℕ) [ true ↦ Some (size_of b c) | false ↦ None ]) ≡ None → linked b c ≡ false
     go true e q = let z : ◌≡◌ {A = ℕ} 0 1 = cc in absurd (omega arith)
     go false e q = e
 
@@ -241,9 +241,8 @@ module _ (counts classes kept cache : List ℕ) where
       omega (arith, there, same, r)
 
   -- and so is the superclass by it
-  pub super-read : (number c row : ℕ) (r : Found) → row ≡ super_row quick c → number ≡ c → r ≡ found (super_by (rows (entry_at cache) (get_or counts 2 0) 0) number row) → r ≡ found (super_of quick number)
-  unfolding quick_base
-  super-read number c row r p e q = q ∙ ap found (ap (super_by quick.cache number) (p ∙ ap (super_row quick) (sym e)) ∙ super-by-row quick number)
+  pub super-read : (number c row : ℕ) (r : P.Option ℕ) → row ≡ super_row quick c → number ≡ c → r ≡ optional (super_by quick.cache number row) → r ≡ optional (super_of quick c)
+  super-read number c row r p e q = q ∙ ap optional ((λ i. super_by quick.cache (e i) (p i)) ∙ super-by-row quick c)
 
 -- the trace by such a table
 pub trace-read : (b : Base) (ends counts classes cache objects frames : List ℕ) → Ended b ends
@@ -302,8 +301,12 @@ module _ (counts classes kept cache : List ℕ) where
   base = quick_base counts classes kept cache
 
   -- the size of a class is its superclass's and its own fields
-  pub size-sum : (c p s k : ℕ) → super_of base c ≡ some p → s ≡ size_of base p → k ≡ field_count (file_in counts classes kept c) → s + k ≡ size_of base c
+  size-sum : (c p s k : ℕ) → super_of base c ≡ some p → s ≡ size_of base p → k ≡ field_count (file_in counts classes kept c) → s + k ≡ size_of base c
   size-sum c p s k e x y = omega (arith, size-some base c p e, own-size counts classes kept cache c)
+
+  -- which the table has of those below it
+  pub size-linked : (sizes : List ℕ) (c p k : ℕ) → Sized base c sizes → super_of base c ≡ some p → k ≡ field_count (file_in counts classes kept c) → get_or sizes p 0 + k ≡ size_of base c
+  size-linked sizes c p k sized e own = size-sum c p (get_or sizes p 0) k e ((sized p).0 (super-falls base c p e)).0 own
 
   object-file : sources_fit (get_or counts 1 0) kept (rows (class_row_at classes) (get_or counts 0 0) 0) ≡ true → file_in counts classes kept 0 ≡ []
   object-file h =
@@ -338,12 +341,6 @@ frame-tests t b n X = rw (stack-length (operand_at t b) (get_or t (b + 3) 0))
 size-at : (t : Tables) (c : ℕ) → c < class_limit → get_or (sizes_of t) c 0 ≡ pick (broken t) 0 (size_of (view_base t) c)
 unfolding sizes_of
 size-at t c l = let z : 0 + c ≡ c = omega arith in rw z at (rows-get_d (λ i. pick (broken t) 0 (size_of (view_base t) i)) class_limit 0 c 0 l)
-
-pub sizes-broken : (t : Tables) → broken t ≡ true → replicate class_limit 0 ≡ sizes_of t
-unfolding sizes_of pick
-sizes-broken t h =
-    ext_get_or 0 (replicate class_limit 0) (sizes_of t) (length-replicate {A = ℕ} class_limit 0 ∙ sym (rows-length _ class_limit 0)) (λ c l.
-    zeros-at class_limit c ∙ sym (size-at t c (omega (arith, length-replicate {A = ℕ} class_limit 0)) ∙ ap (λ (u : Bool). pick u 0 (size_of (view_base t) c)) h))
 
 pub sizes-unbroken : (t : Tables) (sizes : List ℕ) → broken t ≡ false → Sized (view_base t) (get_or t.counts 0 0) sizes → length sizes ≡ class_limit → sizes ≡ sizes_of t
 unfolding sizes_of pick
@@ -404,7 +401,7 @@ module _ (t : Tables) where
 
 -- the sizes that the links' test leaves of tables that are not broken
 pub measured : (t : Tables) (sizes : List ℕ) (v : Bool) → broken t ≡ false → v ≡ links_fit (quick_of t) (get_or t.counts 0 0) → (v ≡ true → Sized (quick_of t) (get_or t.counts 0 0) sizes) → length sizes ≡ class_limit
-    → Measured t false sizes
+    → Measured t sizes
 measured t sizes v h e s l =
     let sized = subst (λ (b : Base). Sized b (get_or t.counts 0 0) sizes) (quick-base t h) (s (e ∙ unbroken-linked t h)) in
-    record { verdict = sym h; fields = sizes-unbroken t sizes h sized l; sized = λ q. sized }
+    record { unbroken = h; fields = sizes-unbroken t sizes h sized l; sized = sized }

@@ -11,8 +11,8 @@ use Rattle.definition.specs.Instructions.{pick}
 use Rattle.definition.specs.Lists.{all, rows}
 use Rattle.definition.specs.Classes.{Base}
 use Rattle.definition.specs.Machine.{Value}
-use Rattle.definition.specs.Tables.{size_of, value_of, value_at, field_at, owner_at}
-use Rattle.layout.specs.Places.{rows-hit, rows_on, rows_end, rows_start}
+use Rattle.definition.specs.Tables.{value_of, value_at, field_at, owner_at}
+use Rattle.layout.specs.Places.{rows-hit, rows_on, rows_end}
 use Rattle.resolution.specs.Quick.{either}
 use Rattle.store.specs.Checks.{exists, value_in, limit_of, Sized, SizesFew}
 use Rattle.store.proofs.Laws.{exists-past, exists-owned, object-fits, null-fits, none-fits}

@@ -1,6 +1,6 @@
 -- Word 1 as tests in an order in which they can be made: lengths, counts, the report's share and the numbers of rows, then the classes' files, and after these, with
 -- classes read at once off files that are known to read, superclasses and sizes, rows, values and the trace.
-use Rattle.std.specs.Prelude.{Bool, true, false, List, [], ◌∷◌, ℕ, ◌+◌, ◌*◌, ◌-◌, ◌<◌, ◌≤◌, length, get_or, replicate, eqb, leb, ltb, ◌≡◌}
+use Rattle.std.specs.Prelude.{Bool, true, false, List, [], ◌∷◌, ℕ, ◌+◌, ◌*◌, ◌-◌, ◌<◌, ◌≤◌, length, get_or, replicate, eqb, leb, ltb, ◌≡◌, Option, Some, None}
 use Rattle.definition.specs.Numbers.{class_limit, share_limit, counts_length, objects_length, frames_length}
 use Rattle.definition.specs.Instructions.{pick}
 use Rattle.definition.specs.Lists.{every, all, is_some, rows, stack}
@@ -15,8 +15,6 @@ use Rattle.frames.specs.Made.{made_in}
 use Rattle.classfile.specs.Reading.{part_of}
 use Rattle.resolution.specs.Quick.{quick_of}
 use Rattle.store.specs.Tracing.{super_end, trace_quick}
-use Rattle.store.specs.declared.Fields.{Fields}
-use Rattle.store.specs.declared.Fields.TheVariants.{Count, Unfit}
 
 -- Files: a class but the first has a loader, and a file that lies within the first n bytes and reads
 
@@ -39,8 +37,8 @@ unfoldable pub links_fit : Base → ℕ → Bool
 links_fit b n = all (linked b) (rows number (n - 1) 1)
 
 -- how many fields a class has, if it is linked
-unfoldable pub linked_size : Base → ℕ → Fields
-linked_size b c = elim (linked b c) [ true ↦ Count (size_of b c) | false ↦ Unfit ]
+unfoldable pub linked_size : Base → ℕ → Option ℕ
+linked_size b c = elim (linked b c) [ true ↦ Some (size_of b c) | false ↦ None ]
 
 -- a table of zeros, and one with the sizes of classes 0 to n - 1, each at most 16, and zeros
 abbrev pub Blank : List ℕ → Type 0
@@ -151,8 +149,8 @@ checks t = every (readable t ∷ values_fit (quick_of t) t.counts t.classes t.ca
 unfoldable pub sizes_of : Tables → List ℕ
 sizes_of t = rows (λ c. pick (broken t) 0 (size_of (view_base t) c)) class_limit 0
 
--- the verdict and the sizes; and that no class has more than 16 fields, if the tables are not broken
-pub record Measured (t : Tables) (v : Bool) (sizes : List ℕ) : Type 0 where
-  pub verdict : v ≡ broken t
+-- the sizes of tables that are not broken: no class has more than 16 fields
+pub record Measured (t : Tables) (sizes : List ℕ) : Type 0 where
+  pub unbroken : broken t ≡ false
   pub fields : sizes ≡ sizes_of t
-  pub sized : v ≡ false → Sized (view_base t) (get_or t.counts 0 0) sizes
+  pub sized : Sized (view_base t) (get_or t.counts 0 0) sizes

@@ -5,10 +5,10 @@ use Rattle.std.specs.Prelude.{◌≡◌, Bool, true, false, List, [], ◌∷◌,
 use Rattle.std.proofs.Math.Path.{refl, ap, subst}
 use Rattle.std.proofs.Common.{sym, ◌∙◌, length-take-le}
 use Rattle.std.proofs.Math.Option.{some, some-injective}
-use Prim.Native.Nat.{ℕ, zero, suc, ◌+◌, ◌-◌, ◌*◌, ◌≤◌, ◌<◌}
+use Prim.Native.Nat.{ℕ, zero, suc, ◌+◌, ◌-◌, ◌*◌, ◌≤◌, ◌<◌, max}
 use native.Mathlib.Omega.{arith}
 use Rattle.std.proofs.Math.ListN.{length, get_elem?, get_or, length-map}
-use borrow.Author.Tests.{leb-true, le-leb, lt-leb, ltb-true, lt-ltb, le-ltb, ltb-false}
+use borrow.Author.Tests.{leb-true, le-leb, lt-leb, ltb-true, lt-ltb, ltb-false}
 use Rattle.definition.specs.Numbers.{count_classes, count_cache, count_objects, count_frames, tie_numbers_cell, subtype_numbers_cell, loads_cell, trace_cell, level_cells, object_cells}
 use Rattle.definition.specs.Lists.{every, all, rows, stack}
 use Rattle.definition.specs.Requests.{at}
@@ -30,49 +30,21 @@ use Rattle.resolution.specs.Unbroken.{row_first, row_other}
 
 -- The greatest of numbers
 
-unfoldable pub more : ℕ → ℕ → ℕ
-more a b = pick (ltb a b) b a
-
 -- the greatest of m and of f at the k places from i on
 unfoldable pub highest : (ℕ → ℕ) → ℕ → ℕ → ℕ → ℕ
 highest f i zero m = m
-highest f i (suc k) m = highest f (suc i) k (more m (f i))
+highest f i (suc k) m = highest f (suc i) k (max m (f i))
 
 -- at the first n places
 abbrev pub most : (ℕ → ℕ) → ℕ → ℕ
 most f n = highest f 0 n 0
 
-pub more-first : (a b : ℕ) → b ≤ a → more a b ≡ a
-unfolding more pick
-more-first a b l = rw (le-ltb a b l, pick)
-
-pub more-second : (a b : ℕ) → a < b → more a b ≡ b
-unfolding more pick
-more-second a b l = rw (lt-ltb a b l, pick)
-
-more_within : (a b z : ℕ) → more a b ≤ z → (a ≤ z) × (b ≤ z)
-unfolding more pick
-more_within a b z h = go (ltb a b) refl h
-  where
-    go : (t : Bool) → ltb a b ≡ t → pick t b a ≤ z → (a ≤ z) × (b ≤ z)
-    go true e l = (omega (arith, ltb-true a b e), l)
-    go false e l = (l, omega (arith, ltb-false a b e))
-
-within_more : (a b z : ℕ) → a ≤ z → b ≤ z → more a b ≤ z
-unfolding more pick
-within_more a b z l h = go (ltb a b)
-  where
-    go : (t : Bool) → pick t b a ≤ z
-    go true = h
-    go false = l
-
 pub highest-within : (f : ℕ → ℕ) (i k m z : ℕ) → highest f i k m ≤ z → (m ≤ z) × ((j : ℕ) → i ≤ j → j < i + k → f j ≤ z)
 unfolding highest
 highest-within f i zero m z h = (h, λ j a b. absurd (omega arith))
 highest-within f i (suc k) m z h =
-    let r = highest-within f (suc i) k (more m (f i)) z h in
-    let a = more_within m (f i) z r.0 in
-    (a.0, λ j l g. here j l g a.1 r.1)
+    let r = highest-within f (suc i) k (max m (f i)) z h in
+    (omega (arith, r.0), λ j l g. here j l g (omega (arith, r.0)) r.1)
   where
     here : (j : ℕ) → i ≤ j → j < i + suc k → f i ≤ z → ((j : ℕ) → suc i ≤ j → j < suc i + k → f j ≤ z) → f j ≤ z
     here j l g x r = go (ltb i j) refl
@@ -85,7 +57,7 @@ pub within-highest : (f : ℕ → ℕ) (i k m z : ℕ) → m ≤ z → ((j : ℕ
 unfolding highest
 within-highest f i zero m z l h = l
 within-highest f i (suc k) m z l h =
-    within-highest f (suc i) k (more m (f i)) z (within_more m (f i) z l (h i (omega arith) (omega arith))) (λ j a b. h j (omega arith) (omega arith))
+    within-highest f (suc i) k (max m (f i)) z (let here : f i ≤ z = h i (omega arith) (omega arith) in omega (arith, here)) (λ j a b. h j (omega arith) (omega arith))
 
 pub most-within : (f : ℕ → ℕ) (n z : ℕ) → most f n ≤ z → (j : ℕ) → j < n → f j ≤ z
 most-within f n z h j l = (highest-within f 0 n 0 z h).1 j (omega arith) (omega arith)
@@ -97,7 +69,7 @@ within-most f n z h = within-highest f 0 n 0 z (omega arith) (λ j a b. h j (ome
 highest-on : (f : ℕ → ℕ) (i k n m : ℕ) → highest f (i + k) n (highest f i k m) ≡ highest f i (k + n) m
 unfolding highest
 highest-on f i zero n m = let e : i + 0 ≡ i = omega arith in let z : 0 + n ≡ n = omega arith in rw (e, z)
-highest-on f i (suc k) n m = let e : i + suc k ≡ suc i + k = omega arith in let z : suc k + n ≡ suc (k + n) = omega arith in rw (e, z) (highest-on f (suc i) k n (more m (f i)))
+highest-on f i (suc k) n m = let e : i + suc k ≡ suc i + k = omega arith in let z : suc k + n ≡ suc (k + n) = omega arith in rw (e, z) (highest-on f (suc i) k n (max m (f i)))
 
 pub most-on : (f : ℕ → ℕ) (i n m : ℕ) → i ≤ n → m ≡ most f i → highest f i (n - i) m ≡ most f n
 most-on f i n m l e =
@@ -106,7 +78,7 @@ most-on f i n m l e =
     ap (highest f i (n - i)) e ∙ (ap (λ (j : ℕ). highest f j (n - i) (most f i)) (sym z) ∙ (highest-on f 0 i (n - i) 0 ∙ ap (λ (j : ℕ). highest f 0 j 0) s))
 
 -- a loop's turn, from place i on, of n
-pub highest-step : (f : ℕ → ℕ) (i n m : ℕ) → i < n → highest f i (n - i) m ≡ highest f (i + 1) (n - (i + 1)) (more m (f i))
+pub highest-step : (f : ℕ → ℕ) (i n m : ℕ) → i < n → highest f i (n - i) m ≡ highest f (i + 1) (n - (i + 1)) (max m (f i))
 unfolding highest
 highest-step f i n m h = let e : n - i ≡ suc (n - (i + 1)) = omega arith in let z : i + 1 ≡ suc i = omega arith in rw (e, z)
 

@@ -11,19 +11,4 @@ mod numbering; // numbering.rt: the numbers of rows that are added
 
 pub use brokenness::{class_sizes, is_broken};
 pub use counts::is_shaped;
-use definition::numbers::CLASS_LIMIT;
 pub use numbering::number_rows;
-
-// The number of fields of a class that has a superclass and at most 16 fields.
-#[derive(Clone, Copy)]
-pub enum Fields {
-    Count(u8),
-    Unfit,
-}
-
-// The verdict on tables, and the number of fields of each class of a store.
-#[derive(Clone, Copy)]
-pub struct Sizes {
-    pub broken: bool,
-    pub fields: [u8; CLASS_LIMIT as usize],
-}

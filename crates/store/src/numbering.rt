@@ -15,9 +15,7 @@ pub fn number_rows(counts: &mut [u16], first: u16, row: u16, k: u16, n: u16)
         return;
     }
     let start = usize::from(first) + usize::from(row);
-    let mut i = n;
-    while 0 < i {
-        i -= 1;
+    for i in (0..n).rev() {
         cells::put(counts, start + usize::from(i), k + i);
     }
 }

@@ -51,12 +51,10 @@ pub(crate) fn sources_fit(counts: &[u16], classes: &[u16], kept: &[u8]) -> bool
     if !is_object(classes) {
         return false;
     }
-    let mut c: u16 = 1;
-    while c < n {
+    for c in 1..n {
         if !file_fits(counts, classes, kept, c) {
             return false;
         }
-        c += 1;
     }
     true
 }
@@ -76,12 +74,10 @@ fn entries_fit(counts: &[u16], cache: &[u16]) -> bool
 {
     let classes = cells::at(counts, COUNT_CLASSES);
     let n = cells::at(counts, COUNT_CACHE);
-    let mut i: u16 = 0;
-    while i < n {
+    for i in 0..n {
         if !entry_fits(cache, classes, i) {
             return false;
         }
-        i += 1;
     }
     true
 }
@@ -96,12 +92,10 @@ fn subtypes_fit(counts: &[u16], subtypes: &[u16]) -> bool
     ensures { result ≡ all subtype_fits (rows (subtype_at subtypes.now) (get_or counts.now count_subtypes 0) 0) }
 {
     let n = cells::at(counts, COUNT_SUBTYPES);
-    let mut i: u16 = 0;
-    while i < n {
+    for i in 0..n {
         if !subtype_fits(subtypes, i) {
             return false;
         }
-        i += 1;
     }
     true
 }

@@ -1,10 +1,10 @@
 // The trace of loads that can be taken back: each level lies under the next, and what it leaves of the tables ends before its counts. Levels are tested from the
 // oldest on, so that each class and each entry is looked at once for all of them.
-ghost use Rattle.std.specs.Prelude.{◌≡◌, true, ◌+◌, ◌-◌, ◌<◌, get_or};
+ghost use Rattle.std.specs.Prelude.{◌≡◌, true, ℕ, ◌+◌, ◌-◌, ◌<◌, get_or};
 ghost use Rattle.definition.specs.Numbers.{short_range, int_range, count_objects, count_frames};
 ghost use Rattle.definition.specs.Lists.{all, rows};
 ghost use Rattle.definition.specs.Tables.{level_at};
-ghost use Rattle.store.specs.Tracing.{more, highest, file_end, object_end, frame_end, held_end, under, falling, level_from, cell_at, entry_end, last_below, leaves, level_leaves, trace_quick};
+ghost use Rattle.store.specs.Tracing.{highest, file_end, object_end, frame_end, held_end, under, falling, level_from, cell_at, entry_end, last_below, leaves, level_leaves, trace_quick};
 
 use definition::numbers::{
     COUNT_FRAMES, COUNT_OBJECTS, FRAME_CELLS, FRAME_LIMIT, LEVEL_CELLS, LOADS_CELL, OBJECT_CELLS,
@@ -14,55 +14,31 @@ use definition::numbers::{
 // The rows of a task.
 const TASK_ROWS: usize = FRAME_LIMIT as usize;
 
-fn greater(a: usize, b: usize) -> usize
-    ensures { result ≡ more a b }
+// The greatest of `most` and of what `end` answers at the places from one to another.
+fn highest<F: Fn(u16) -> usize>(from: u16, to: u16, most: usize, end: F) -> usize
+    requires { F.IsAlwaysCallable end }
+    ensures { (f : ℕ → ℕ) → ((i r : ℕ) → i < short_range → F.post end i r → r ≡ f i) → result ≡ highest f from (to - from) most }
 {
-    if a < b { b } else { a }
+    let mut greatest = most;
+    for i in from..to {
+        greatest = greatest.max(end(i));
+    }
+    greatest
 }
 
-// Where the files of classes `from` to `to` end, and those before it, which end at `most`.
-fn files_end(classes: &[u16], from: u16, to: u16, most: usize) -> usize
-    ensures { result ≡ highest (file_end classes.now) from (to - from) most }
+// Where the file of class c ends.
+fn file_end(classes: &[u16], c: u16) -> usize
+    ensures { result ≡ file_end classes.now c }
 {
-    let mut end = most;
-    let mut c = from;
-    while c < to {
-        let place = usize::from(c) * ROW_CELLS;
-        end = greater(
-            end,
-            usize::from(cells::at(classes, place + 1))
-                + usize::from(cells::at(classes, place + 2)),
-        );
-        c += 1;
-    }
-    end
+    let place = usize::from(c) * ROW_CELLS;
+    usize::from(cells::at(classes, place + 1)) + usize::from(cells::at(classes, place + 2))
 }
 
-// The rows past the entries of superclasses, which `ends` has.
-fn supers_end(ends: &[u16], from: u16, to: u16, most: usize) -> usize
-    ensures { result ≡ highest (cell_at ends.now) from (to - from) most }
+// Past the class of entry i.
+fn entry_end(cache: &[u16], i: u16) -> usize
+    ensures { result ≡ entry_end cache.now i }
 {
-    let mut end = most;
-    let mut c = from;
-    while c < to {
-        end = greater(end, usize::from(cells::at(ends, usize::from(c))));
-        c += 1;
-    }
-    end
-}
-
-// Past the classes of entries.
-fn entries_end(cache: &[u16], from: u16, to: u16, most: usize) -> usize
-    ensures { result ≡ highest (entry_end cache.now) from (to - from) most }
-{
-    let mut end = most;
-    let mut i = from;
-    while i < to {
-        let place = usize::from(i) * ROW_CELLS + 2;
-        end = greater(end, usize::from(cells::at(cache, place)) + 1);
-        i += 1;
-    }
-    end
+    usize::from(cells::at(cache, usize::from(i) * ROW_CELLS + 2)) + 1
 }
 
 // Past the class of object o, 0 if its row is free.
@@ -75,17 +51,12 @@ fn object_end(counts: &[u16], objects: &[u32], o: u16) -> usize
     cells::at(objects, usize::from(o) * OBJECT_CELLS) as usize + 1
 }
 
-fn objects_end(counts: &[u16], objects: &[u32]) -> usize
-    ensures { result ≡ highest (object_end counts.now objects.now) 0 (get_or counts.now count_objects 0) 0 }
+// Past the class of a task's frame i.
+fn frame_end(frames: &[u32], task: u8, i: u16) -> usize
+    ensures { result ≡ frame_end frames.now task i }
 {
-    let n = cells::at(counts, COUNT_OBJECTS);
-    let mut end = 0;
-    let mut o: u16 = 0;
-    while o < n {
-        end = greater(end, object_end(counts, objects, o));
-        o += 1;
-    }
-    end
+    let row = usize::from(task) * TASK_ROWS + usize::from(i);
+    cells::at(frames, row * FRAME_CELLS) as usize + 1
 }
 
 // Past the classes of a task's frames.
@@ -93,27 +64,16 @@ fn frames_end(counts: &[u16], frames: &[u32], task: u8, most: usize) -> usize
     ensures { result ≡ highest (frame_end frames.now task) 0 (get_or counts.now (count_frames + task) 0) most }
 {
     let n = cells::at(counts, COUNT_FRAMES + usize::from(task));
-    let first = usize::from(task) * TASK_ROWS;
-    let mut end = most;
-    let mut i: u16 = 0;
-    while i < n {
-        let place = (first + usize::from(i)) * FRAME_CELLS;
-        end = greater(end, cells::at(frames, place) as usize + 1);
-        i += 1;
-    }
-    end
+    highest(0, n, most, |i| frame_end(frames, task, i))
 }
 
 // Past the classes of all objects and frames.
 fn held_end(counts: &[u16], objects: &[u32], frames: &[u32]) -> usize
     ensures { result ≡ held_end counts.now objects.now frames.now }
 {
-    frames_end(
-        counts,
-        frames,
-        1,
-        frames_end(counts, frames, 0, objects_end(counts, objects)),
-    )
+    let n = cells::at(counts, COUNT_OBJECTS);
+    let made = highest(0, n, 0, |o| object_end(counts, objects, o));
+    frames_end(counts, frames, 1, frames_end(counts, frames, 0, made))
 }
 
 // The level at a place lies under that at another.
@@ -141,9 +101,7 @@ fn levels_fall(counts: &[u16], loads: u16) -> bool
     ensures { result ≡ falling (level_at counts.now) loads (level_from counts.now 0) }
 {
     let mut above = 0;
-    let mut i = loads;
-    while 0 < i {
-        i -= 1;
+    for i in (0..loads).rev() {
         let place = TRACE_CELL + usize::from(i) * LEVEL_CELLS;
         if !is_under(counts, place, above) {
             return false;
@@ -228,19 +186,22 @@ fn levels_leave(
     let mut files = 0;
     let mut supers = 0;
     let mut entries = 0;
-    let mut i: u16 = 0;
-    while i < loads {
+    for i in 0..loads {
         let a = classes_left(counts, i);
         let e = entries_left(counts, i);
-        files = files_end(classes, n, a, files);
-        supers = supers_end(ends, n, a, supers);
-        entries = entries_end(cache, k, e, entries);
+        files = highest(n, a, files, |c| file_end(classes, c));
+        supers = highest(
+            n,
+            a,
+            supers,
+            |c| usize::from(cells::at(ends, usize::from(c))),
+        );
+        entries = highest(k, e, entries, |j| entry_end(cache, j));
         if !level_leaves(counts, i, files, supers, entries, held) {
             return false;
         }
         n = a;
         k = e;
-        i += 1;
     }
     true
 }

@@ -100,12 +100,10 @@ fn many_fit(counts: &[u16], objects: &[u32], o: u16, size: u8, made: u32) -> boo
     ensures { result ≡ all (value_in (exists counts.now made)) (rows (field_at objects.now o) size 0) }
 {
     let first = usize::from(o) * OBJECT_CELLS + FIELDS_CELL;
-    let last = first + VALUE_CELLS * usize::from(size);
     let mut found: u32 = 0;
-    let mut at = first;
-    while at < last {
-        found = fits_too(counts, objects[at], objects[at + 1], made, found);
-        at += VALUE_CELLS;
+    for i in 0..size {
+        let place = first + VALUE_CELLS * usize::from(i);
+        found = fits_too(counts, objects[place], objects[place + 1], made, found);
     }
     found == 0
 }
@@ -116,13 +114,11 @@ fn few_fit(counts: &[u16], objects: &[u32], o: u16, size: u8, made: u32) -> bool
     ensures { result ≡ all (value_in (exists counts.now made)) (rows (field_at objects.now o) size 0) }
 {
     let first = usize::from(o) * OBJECT_CELLS;
-    let mut i: u8 = 0;
-    while i < size {
+    for i in 0..size {
         let place = first + (FIELDS_CELL + VALUE_CELLS * usize::from(i));
         if !value_fits(counts, objects[place], objects[place + 1], made) {
             return false;
         }
-        i += 1;
     }
     true
 }
@@ -173,12 +169,10 @@ pub(crate) fn objects_fit(sizes: &[u8], counts: &[u16], objects: &[u32]) -> bool
     let classes = u32::from(cells::at(counts, COUNT_CLASSES));
     let n = cells::at(counts, COUNT_OBJECTS);
     let made = u32::from(n);
-    let mut o: u16 = 0;
-    while o < n {
+    for o in 0..n {
         if !object_fits(sizes, counts, objects, o, classes, made) {
             return false;
         }
-        o += 1;
     }
     true
 }
@@ -188,13 +182,11 @@ fn operands_fit(counts: &[u16], frames: &[u32], b: u32, depth: u32, made: u32) -
     requires { (b + frame_cells ≤ length frames.now) × (depth ≤ operand_limit) }
     ensures { result ≡ all (value_in (exists counts.now made)) (stack (operand_at frames.now b) depth) }
 {
-    let mut i = depth;
-    while 0 < i {
-        let place = b as usize + (OPERANDS_CELL + VALUE_CELLS * (i - 1) as usize);
+    for i in (0..depth).rev() {
+        let place = b as usize + (OPERANDS_CELL + VALUE_CELLS * i as usize);
         if !value_fits(counts, frames[place], frames[place + 1], made) {
             return false;
         }
-        i -= 1;
     }
     true
 }
@@ -203,13 +195,11 @@ fn locals_fit(counts: &[u16], frames: &[u32], b: u32, made: u32) -> bool
     requires { b + frame_cells ≤ length frames.now }
     ensures { result ≡ all (local_in (exists counts.now made)) (rows (local_at frames.now b) local_count 0) }
 {
-    let mut i: u8 = 0;
-    while i < LOCAL_COUNT {
+    for i in 0..LOCAL_COUNT {
         let place = b as usize + (LOCALS_CELL + VALUE_CELLS * usize::from(i));
         if !local_fits(counts, frames[place], frames[place + 1], made) {
             return false;
         }
-        i += 1;
     }
     true
 }
@@ -239,18 +229,17 @@ pub(crate) fn frames_fit(counts: &[u16], frames: &[u32], task: u8) -> bool
     let classes = u32::from(cells::at(counts, COUNT_CLASSES));
     let made = u32::from(cells::at(counts, COUNT_OBJECTS));
     let first = u32::from(task) * TASK_ROWS;
-    let mut i = cells::at(counts, COUNT_FRAMES + usize::from(task));
-    while 0 < i {
+    let n = cells::at(counts, COUNT_FRAMES + usize::from(task));
+    for i in (0..n).rev() {
         if !frame_fits(
             counts,
             frames,
-            (first + u32::from(i - 1)) * ROW_SIZE,
+            (first + u32::from(i)) * ROW_SIZE,
             classes,
             made,
         ) {
             return false;
         }
-        i -= 1;
     }
     true
 }

@@ -1,16 +1,8 @@
--- Of broken tables all sizes are 0; of others the links fit, and leave the sizes of all classes.
-use mathlib.Core.Bool.{false≢true}
+-- Of tables that are not broken the links fit, and leave the sizes of all classes.
 use mathlib.Core.Path.{◌∙◌, sym}
 use borrow.Author.Rules.{rules}
-use Rattle.store.proofs.Laws.{measured, readable-entries, readable-few, readable-object, sizes-broken, unbroken-readable}
+use Rattle.store.proofs.Laws.{measured, readable-entries, readable-few, readable-object, unbroken-readable}
 use Rattle.store.proofs.brokenness.class_sizes.Goals as goal
-
-pub returns-then-is_broken : goal.returns-then-is_broken
-returns-then-is_broken c = let d = c.is_broken.ensures in record {
-  verdict = sym c.if-is_broken.true ∙ d;
-  fields = sizes-broken _ (sym d ∙ c.if-is_broken.true);
-  sized = λ h. absurd (false≢true (sym h));
-}
 
 pub links_fit-requires : goal.links_fit-requires
 links_fit-requires c = let h = unbroken-readable _ (sym c.is_broken.ensures ∙ c.if-is_broken.false) in (search rules, search rules, readable-few _ h, readable-entries _ h, readable-object _ h)

@@ -1,7 +1,5 @@
 -- The tests are made one after the other; they fail exactly if the tables are broken.
 use mathlib.Core.Path.{◌∙◌, sym}
-use borrow.Author.Rules.{rules}
-use borrow.Author.Tests.{not-false, not-true}
 use Rattle.store.proofs.Laws.{unreadable, readable-entries, readable-few, readable-object, readable-whole, verdict-values}
 use Rattle.store.proofs.brokenness.is_broken.Goals as goal
 

@@ -1,7 +1,5 @@
 -- The tests are made one after the other.
 use mathlib.Core.Path.{◌∙◌, sym}
-use borrow.Author.Rules.{rules}
-use borrow.Author.Tests.{not-false, not-true}
 use Rattle.classfile.specs.Lists.{every-fails, every_first, every-last}
 use Rattle.store.specs.Checks.{readable}
 use Rattle.store.proofs.brokenness.is_readable.Goals as goal

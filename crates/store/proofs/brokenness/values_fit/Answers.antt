@@ -1,7 +1,6 @@
 -- Superclasses and sizes, objects, the frames of both tasks and the trace are tested one after the other.
 use mathlib.Core.Path.{◌∙◌, sym}
 use borrow.Author.Rules.{rules}
-use borrow.Author.Tests.{not-false, not-true}
 use Rattle.classfile.specs.Lists.{every-fails, every_first, every-last}
 use Rattle.store.proofs.Laws.{sized-objects, trace-read}
 use Rattle.store.proofs.Looked.{sized-few}

@@ -1,7 +1,5 @@
 -- The counts are compared with their limits, one after the other.
 use mathlib.Core.Path.{◌∙◌, sym}
-use borrow.Author.Rules.{rules}
-use borrow.Author.Tests.{not-false, not-true}
 use Rattle.definition.specs.Broken.{within}
 use Rattle.classfile.specs.Lists.{every-fails, every_first, every-last}
 use Rattle.store.proofs.counts.are_within.Goals as goal

@@ -1,5 +1,4 @@
 -- The count is compared with its limit.
-use borrow.Author.Rules.{rules}
 use Rattle.store.proofs.counts.is_within.Goals as goal
 
 pub returns : goal.returns

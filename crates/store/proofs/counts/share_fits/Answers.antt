@@ -1,5 +1,4 @@
 -- The report's objects are counted and compared with its share.
-use borrow.Author.Rules.{rules}
 use Rattle.store.specs.Checks.{share_fits}
 use Rattle.store.proofs.counts.share_fits.Goals as goal
 

@@ -1,39 +1,22 @@
 -- Before a row is numbered, the rows behind it are.
 use mathlib.Core.Path.{◌∙◌, ◌≡◌, refl, sym, ap}
-use Prim.Native.Nat.{◌+◌, ◌≤◌}
 use native.Mathlib.Omega.{arith}
 use lib.ListN.{length, length-set}
-use borrow.Author.Rules.{rules}
 use Rattle.store.specs.Numbering.{numbered-few, numbered-many}
-use Rattle.store.proofs.Numbered.{numbered_from, number-none, number_more, number-all}
+use Rattle.store.proofs.Numbered.{number-none, number_more, number-all}
 use Rattle.store.proofs.numbering.number_rows.Goals as goal
-
-pub overflow_add-from : goal.overflow_add-from
-overflow_add-from c = omega (arith, c.from.ensures.1, c.from-2.ensures.1)
 
 pub returns-then-from-gt-NUMBERS : goal.returns-then-from-gt-NUMBERS
 returns-then-from-gt-NUMBERS c = sym (numbered-many _ _ _ _ _ (omega (arith, c.if-from-gt-NUMBERS.true, c.from.ensures, c.from-2.ensures)))
-
-pub overflow_add-start : goal.overflow_add-start
-overflow_add-start c = omega (arith, c.from-3.ensures.1, c.from-4.ensures.1)
 
 pub loop-i-init : goal.loop-i-init
 loop-i-init c =
     (omega arith, omega (arith, c.from-3.ensures, c.from-4.ensures), refl, number-none _ _ _ _ _, omega (arith, c.if-from-gt-NUMBERS.false, c.from-2.ensures, c.from.ensures))
 
-pub overflow_add-start-in-loop-i : goal.overflow_add-start-in-loop-i
-overflow_add-start-in-loop-i c = omega (arith, c.from-3.ensures.1, c.from-4.ensures.1, c.from-in-loop-i.ensures.1)
-
-pub overflow_add-k : goal.overflow_add-k
-overflow_add-k c = omega (arith, c.loop-i.invariant.0, c.loop-i.invariant.4)
-
 pub loop-i-preserved : goal.loop-i-preserved
 loop-i-preserved c =
     let i = c.loop-i.invariant in
     (omega (arith, i.0), i.1, ap length c.put.ensures ∙ simp length-set i.2, rw (c.put.ensures, c.from-in-loop-i.ensures, i.1) (number_more _ _ _ _ _ _ _ c.loop-i-test.true i.0 i.3), i.4)
-
-pub shape_of-counts : goal.shape_of-counts
-shape_of-counts c = c.loop-i.invariant.2
 
 pub returns : goal.returns
 returns c =

@@ -1,6 +1,5 @@
 -- Two cells of the row are compared.
 use mathlib.Core.Path.{◌∙◌, sym}
-use borrow.Author.Rules.{rules}
 use borrow.Author.Tests.{le-ltb, lt-ltb}
 use Rattle.definition.specs.Broken.{entry_fits}
 use Rattle.definition.specs.Tables.{entry_at}

@@ -1,6 +1,5 @@
 -- Loader, place and file are tested one after the other.
 use mathlib.Core.Path.{◌∙◌, sym}
-use borrow.Author.Rules.{rules}
 use borrow.Author.Tests.{le-leb, le-ltb, lt-leb, lt-ltb}
 use Rattle.definition.specs.Tables.{class_row_at}
 use Rattle.classfile.specs.Lists.{every-fails, every_first, every-last}

@@ -1,6 +1,5 @@
 -- The three cells of row 0 are 0.
 use mathlib.Core.Path.{◌∙◌, sym}
-use borrow.Author.Rules.{rules}
 use borrow.Author.Tests.{eq-eqb, ne_eqb}
 use Rattle.definition.specs.Broken.{is_object}
 use Rattle.definition.specs.Tables.{class_row_at}

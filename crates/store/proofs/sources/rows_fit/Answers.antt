@@ -1,7 +1,5 @@
 -- The three tables are tested one after the other.
 use mathlib.Core.Path.{◌∙◌, sym}
-use borrow.Author.Rules.{rules}
-use borrow.Author.Tests.{not-false, not-true}
 use Rattle.classfile.specs.Lists.{every-fails, every_first, every-last}
 use Rattle.store.specs.Checks.{rows_fit}
 use Rattle.store.proofs.sources.rows_fit.Goals as goal

@@ -1,15 +1,8 @@
 -- Object is tested first. Before the file of class c is tested, those from c on fit exactly if all do.
-use mathlib.Core.Path.{◌∙◌, ◌≡◌, sym}
-use Prim.Native.Nat.{◌-◌}
+use mathlib.Core.Path.{◌∙◌, sym}
 use native.Mathlib.Omega.{arith}
-use lib.ListN.{get_or}
-use borrow.Author.Rules.{rules}
-use borrow.Author.Tests.{not-false, not-true}
-use Rattle.definition.specs.Lists.{all, rows}
-use Rattle.definition.specs.Tables.{class_row_at}
 use Rattle.layout.specs.Places.{rows_end, rows-hit, rows_on}
 use Rattle.store.proofs.Laws.{sources-none, sources-rest, sources-unfit}
-use Rattle.store.specs.Checks.{file_fits, sources_fit}
 use Rattle.store.proofs.sources.sources_fit.Goals as goal
 
 pub returns-then-n-eq0 : goal.returns-then-n-eq0

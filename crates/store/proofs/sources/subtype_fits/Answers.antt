@@ -1,5 +1,4 @@
 -- The loader of the row is compared.
-use borrow.Author.Rules.{rules}
 use Rattle.definition.specs.Broken.{subtype_fits}
 use Rattle.definition.specs.Tables.{subtype_at}
 use Rattle.store.proofs.sources.subtype_fits.Goals as goal

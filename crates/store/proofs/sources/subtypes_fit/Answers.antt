@@ -1,18 +1,8 @@
 -- Before row i is tested, the rows from i on pass exactly if all do.
-use mathlib.Core.Path.{◌∙◌, ◌≡◌, ap, sym}
-use Prim.Native.Nat.{◌-◌, ◌≤◌}
+use mathlib.Core.Path.{◌∙◌, sym}
 use native.Mathlib.Omega.{arith}
-use lib.ListN.{get_or}
-use borrow.Author.Rules.{rules}
-use borrow.Author.Tests.{not-false, not-true}
-use Rattle.definition.specs.Broken.{subtype_fits}
-use Rattle.definition.specs.Lists.{all, rows}
-use Rattle.definition.specs.Tables.{subtype_at}
-use Rattle.layout.specs.Places.{rows_end, rows-hit, rows_on, rows_start}
+use Rattle.layout.specs.Places.{rows_end, rows-hit, rows_on}
 use Rattle.store.proofs.sources.subtypes_fit.Goals as goal
-
-pub loop-i-init : goal.loop-i-init
-loop-i-init c = (omega arith, rw c.at-n.ensures (ap (all subtype_fits) (rows_start _ _)))
 
 pub returns-then-not-subtype_fits : goal.returns-then-not-subtype_fits
 returns-then-not-subtype_fits c = sym (rows-hit _ _ _ _ c.loop-i-test.true (sym c.subtype_fits.ensures ∙ c.if-not-subtype_fits.true)) ∙ c.loop-i.invariant.1

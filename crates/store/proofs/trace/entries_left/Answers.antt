@@ -1,5 +1,4 @@
 -- A cell of the row.
-use borrow.Author.Rules.{rules}
 use Rattle.definition.specs.Tables.{level_at}
 use Rattle.store.proofs.trace.entries_left.Goals as goal
 

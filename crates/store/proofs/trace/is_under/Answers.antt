@@ -1,7 +1,6 @@
 -- The five counts are compared, one after the other.
 use mathlib.Core.Path.{sym, ◌∙◌}
 use native.Mathlib.Omega.{arith}
-use borrow.Author.Rules.{rules}
 use Rattle.classfile.specs.Lists.{every-fails, every_first, every-last}
 use Rattle.store.specs.Tracing.{is_le, level_from, not-le, under}
 use Rattle.store.proofs.trace.is_under.Goals as goal

@@ -1,7 +1,5 @@
 -- The counts are compared with what is left, one after the other.
 use mathlib.Core.Path.{refl, sym, ◌∙◌}
-use borrow.Author.Rules.{rules}
-use borrow.Author.Tests.{not-false, not-true}
 use Rattle.classfile.specs.Lists.{every-fails, every_first, every-last}
 use Rattle.definition.specs.Tables.{level_at}
 use Rattle.store.specs.Tracing.{is_le, leaves, not-le}

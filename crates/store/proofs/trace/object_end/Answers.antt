@@ -1,6 +1,5 @@
 -- A free row has no class.
 use mathlib.Core.Path.{sym, ◌∙◌}
-use borrow.Author.Rules.{rules}
 use Rattle.definition.specs.Tables.{owner_at}
 use Rattle.store.specs.Tracing.{end-free, end-owned}
 use Rattle.store.proofs.trace.object_end.Goals as goal
@@ -11,4 +10,4 @@ returns-then-at-eq0 c = sym (end-free _ _ _ (rw (← c.from.ensures) (sym c.at.e
 
 pub returns : goal.returns
 unfolding owner_at
-returns c = rw (c.wide32.ensures.0, c.at.ensures, c.from-2.ensures) (sym (end-owned _ _ _ (λ e. c.if-at-eq0.false (c.at.ensures ∙ rw c.from.ensures e))))
+returns c = rw (c.at-2.ensures, c.from-2.ensures) (sym (end-owned _ _ _ (λ e. c.if-at-eq0.false (c.at.ensures ∙ rw c.from.ensures e))))

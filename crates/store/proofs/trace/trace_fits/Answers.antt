@@ -1,7 +1,5 @@
 -- No load, or levels that fall and leave what ends before their counts.
 use mathlib.Core.Path.{sym, ◌∙◌}
-use borrow.Author.Rules.{rules}
-use borrow.Author.Tests.{not-false, not-true}
 use Rattle.classfile.specs.Lists.{every-fails, every_first, every-last}
 use Rattle.store.specs.Tracing.{quick-none, trace_quick}
 use Rattle.store.proofs.trace.trace_fits.Goals as goal

@@ -1,24 +1,9 @@
 -- Before field i is tested, the fields from i on fit exactly if all do.
-use mathlib.Core.Path.{◌∙◌, ◌≡◌, ap, sym, refl}
-use Prim.Native.Nat.{◌+◌, ◌*◌, ◌-◌, ◌<◌, ◌≤◌}
+use mathlib.Core.Path.{◌∙◌, sym}
 use native.Mathlib.Omega.{arith}
-use lib.ListN.{length}
-use borrow.Author.Tests.{not-false, not-true}
-use Rattle.definition.specs.Lists.{all, rows}
 use Rattle.definition.specs.Tables.{field_at, value_at}
-use Rattle.layout.specs.Places.{rows_end, rows-hit, rows_on, rows_start}
-use Rattle.store.specs.Checks.{exists, value_in}
-use borrow.Author.Rules.{rules}
+use Rattle.layout.specs.Places.{rows_end, rows-hit, rows_on}
 use Rattle.store.proofs.values.few_fit.Goals as goal
-
-pub loop-i-init : goal.loop-i-init
-loop-i-init c = (omega arith, ap (all _) (rows_start _ _))
-
-pub bounds-objects-place : goal.bounds-objects-place
-bounds-objects-place c = omega (arith, c.requires.0, c.requires.1, c.loop-i-test.true, c.from-first.ensures, c.from.ensures)
-
-pub bounds-objects-place-in-loop-i : goal.bounds-objects-place-in-loop-i
-bounds-objects-place-in-loop-i c = omega (arith, c.requires.0, c.requires.1, c.loop-i-test.true, c.from-first.ensures, c.from.ensures)
 
 pub returns-then-not-value_fits : goal.returns-then-not-value_fits
 unfolding field_at value_at

@@ -1,11 +1,10 @@
 -- By the kind: an int fits; bits that aren't below the limit of their kind don't; an object has an owner.
-use mathlib.Core.Path.{◌≡◌, ◌∙◌, sym, ap}
+use mathlib.Core.Path.{◌∙◌, sym, ap}
 use native.Mathlib.Omega.{arith}
 use mathlib.Core.Bool.{Bool, ◌&&◌}
 use lib.Dec.{eqb}
 use Rattle.store.proofs.Laws.{int-fits}
 use Rattle.store.proofs.Looked.{and_yes, and_no, past-limit, owned-fits, null-only}
-use borrow.Author.Rules.{rules}
 use Rattle.store.proofs.values.fits_too.Goals as goal
 
 pub returns-then-kind-eq-KIND_INT : goal.returns-then-kind-eq-KIND_INT

@@ -2,7 +2,6 @@
 use borrow.Author.Tests.{eq-eqb, ne_eqb}
 use Rattle.definition.specs.Instructions.{pick}
 use Rattle.store.specs.Checks.{limit_of}
-use borrow.Author.Rules.{rules}
 use Rattle.store.proofs.values.limit_of.Goals as goal
 
 pub returns-then-kind-eq-KIND_OBJECT : goal.returns-then-kind-eq-KIND_OBJECT

@@ -1,7 +1,6 @@
 -- An empty local's bits are 0; another is as a field.
 use mathlib.Core.Path.{◌∙◌, sym}
 use Rattle.store.proofs.Laws.{empty-fits, local-value}
-use borrow.Author.Rules.{rules}
 use Rattle.store.proofs.values.local_fits.Goals as goal
 
 pub returns-then-kind-eq0 : goal.returns-then-kind-eq0

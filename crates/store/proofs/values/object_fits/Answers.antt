@@ -4,7 +4,6 @@ use native.Mathlib.Omega.{arith}
 use Rattle.definition.specs.Tables.{owner_at}
 use Rattle.store.proofs.Laws.{row-free, task-past, class-past, row-fields}
 use Rattle.store.specs.Checks.{object_sized}
-use borrow.Author.Rules.{rules}
 use Rattle.store.proofs.values.object_fits.Goals as goal
 
 pub bounds-counts-row : goal.bounds-counts-row
@@ -25,12 +24,12 @@ pub returns-then-classes-class : goal.returns-then-classes-class
 unfolding object_sized owner_at
 returns-then-classes-class c = rw (← c.from-row.ensures) (sym (class-past _ _ _ _ (omega (arith, c.if-owner-eq0.false)) c.if-classes-class.true))
 
-pub bounds-sizes-wide32 : goal.bounds-sizes-wide32
-bounds-sizes-wide32 c = omega (arith, c.requires.0.0, c.requires.1, c.if-classes-class.false, c.wide32.ensures.0)
+pub bounds-sizes-class : goal.bounds-sizes-class
+bounds-sizes-class c = omega (arith, c.requires.0.0, c.requires.1, c.if-classes-class.false)
 
 pub fields_fit-requires : goal.fields_fit-requires
 fields_fit-requires c = (omega (arith, c.requires.3, c.requires.4), c.requires.0.1 _)
 
 pub returns : goal.returns
 unfolding object_sized owner_at
-returns c = c.fields_fit.ensures ∙ rw (c.wide32.ensures.0, ← c.from-row.ensures) (sym (row-fields _ _ _ _ (omega (arith, c.if-owner-eq0.false)) c.if-owner-gt-LAST_OWNER.false c.if-classes-class.false))
+returns c = c.fields_fit.ensures ∙ rw (← c.from-row.ensures) (sym (row-fields _ _ _ _ (omega (arith, c.if-owner-eq0.false)) c.if-owner-gt-LAST_OWNER.false c.if-classes-class.false))

@@ -1,32 +1,17 @@
 -- The operands below place i fit, and with them all, exactly if those from the lowest to the last pushed do.
-use mathlib.Core.Path.{◌∙◌, ◌≡◌, ap, sym, refl}
-use Prim.Native.Nat.{◌+◌, ◌*◌, ◌-◌, ◌<◌, ◌≤◌}
+use mathlib.Core.Path.{◌∙◌, sym}
 use native.Mathlib.Omega.{arith}
-use lib.ListN.{length}
-use borrow.Author.Tests.{not-false, not-true}
-use Rattle.definition.specs.Lists.{all, stack}
 use Rattle.definition.specs.Tables.{operand_at, value_at}
 use Rattle.layout.specs.Places.{stack-end, stack-hit, stack-on}
-use Rattle.store.specs.Checks.{exists, value_in}
-use borrow.Author.Rules.{rules}
 use Rattle.store.proofs.values.operands_fit.Goals as goal
-
-pub loop-i-init : goal.loop-i-init
-loop-i-init c = (omega arith, refl)
-
-pub bounds-frames-place : goal.bounds-frames-place
-bounds-frames-place c = omega (arith, c.requires.0, c.requires.1, c.loop-i.invariant.0, c.loop-i-test.true, c.wide32.ensures.0, c.wide32-in-loop-i.ensures.0)
-
-pub bounds-frames-place-in-loop-i : goal.bounds-frames-place-in-loop-i
-bounds-frames-place-in-loop-i c = omega (arith, c.requires.0, c.requires.1, c.loop-i.invariant.0, c.loop-i-test.true, c.wide32.ensures.0, c.wide32-in-loop-i.ensures.0)
 
 pub returns-then-not-value_fits : goal.returns-then-not-value_fits
 unfolding operand_at value_at
-returns-then-not-value_fits c = sym (stack-hit _ (operand_at c.args.frames.now c.args.b) _ c.loop-i-test.true (rw (← c.wide32.ensures.0, ← c.wide32-in-loop-i.ensures.0) (sym c.value_fits.ensures ∙ c.if-not-value_fits.true))) ∙ c.loop-i.invariant.1
+returns-then-not-value_fits c = sym (stack-hit _ (operand_at c.args.frames.now c.args.b) _ c.loop-i-test.true (sym c.value_fits.ensures ∙ c.if-not-value_fits.true)) ∙ c.loop-i.invariant.1
 
 pub loop-i-preserved : goal.loop-i-preserved
 unfolding operand_at value_at
-loop-i-preserved c = (omega (arith, c.loop-i.invariant.0), sym (stack-on _ (operand_at c.args.frames.now c.args.b) _ c.loop-i-test.true (rw (← c.wide32.ensures.0, ← c.wide32-in-loop-i.ensures.0) (sym c.value_fits.ensures ∙ c.if-not-value_fits.false))) ∙ c.loop-i.invariant.1)
+loop-i-preserved c = (omega (arith, c.loop-i.invariant.0), sym (stack-on _ (operand_at c.args.frames.now c.args.b) _ c.loop-i-test.true (sym c.value_fits.ensures ∙ c.if-not-value_fits.false)) ∙ c.loop-i.invariant.1)
 
 pub returns : goal.returns
 returns c = sym (stack-end _ _ _ (omega (arith, c.loop-i-test.false))) ∙ c.loop-i.invariant.1

@@ -1,7 +1,6 @@
 -- By the kind: an int is any bits, an object exists, null's bits are 0, and no other kind is listed.
 use mathlib.Core.Path.{◌∙◌, sym}
 use Rattle.store.proofs.Laws.{int-fits, none-fits, null-fits, object-fits}
-use borrow.Author.Rules.{rules}
 use Rattle.store.proofs.values.value_fits.Goals as goal
 
 pub returns-then-kind-eq-KIND_INT : goal.returns-then-kind-eq-KIND_INT
