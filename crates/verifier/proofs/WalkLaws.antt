@@ -14,8 +14,8 @@ use Rattle.definition.specs.Verifier.{TypeState, map_at, map_types, maps_past}
 use Rattle.layout.specs.Places.{rows_start}
 use Rattle.classfile.specs.Reading.{map_count, map_numbered, maps_of}
 use Rattle.rows.specs.Posting.{Noted, post_notes}
-use Rattle.verifier.specs.declared.methods.Passed.{Passed}
-use Rattle.verifier.specs.declared.methods.Passed.TheVariants.{Inside, To}
+use Rattle.std.specs.Prelude as P
+use Rattle.verifier.specs.declared.methods.Ahead.{Ahead}
 use Rattle.verifier.specs.declared.turns.Step.{Step}
 use Rattle.verifier.specs.declared.turns.Step.TheVariants.{Stop, End, Next}
 use Rattle.verifier.specs.Types.{entry_of}
@@ -29,14 +29,14 @@ unfolding left_from maps_of
 left-all ms = rows_start (map_numbered ms) (map_count ms)
 
 -- what passing a point answers
-module _ (ms : List ℕ) (r : Passed) where
-  pub passed-inside : {o : _} → Passes ms r o → r ≡ Inside → o ≡ none
+module _ (ms : List ℕ) (r : P.Option Ahead) where
+  pub passed-inside : {o : _} → Passes ms r o → r ≡ P.None → o ≡ none
   unfolding Passes
   passed-inside h e = rw e at h
 
-  pub passed_to : {o : _} (j p : ℕ) → Passes ms r o → r ≡ To j p → (o ≡ some (left_from ms j)) × PlaceOf ms j p
+  pub passed_to : {o : _} (a : Ahead) → Passes ms r o → r ≡ P.Some a → (o ≡ some (left_from ms a.number)) × PlaceOf ms a.number a.place
   unfolding Passes
-  passed_to j p h e = rw e at h
+  passed_to a h e = rw e at h
 
 -- On from a turn that leaves the rows j
 

@@ -6,14 +6,13 @@ ghost use Rattle.verifier.specs.Trace.{verification, posting, trace_of, class_tr
 
 use crate::methods::verify_method;
 use crate::notes::{Verified, rejected};
-use classfile::MethodFound;
 
 // Method j of the file: its code and its maps are handed over as parts of the bytes.
 fn verify_numbered(bytes: &[u8], j: u8, loader: u8, subtypes: &mut [u16], count: u16) -> Verified
     requires { j < method_count bytes.now }
     ensures { verification result.accepts (noted subtypes.new result.count) ≡ posting loader (trace_of (file_version bytes.now) (class_name bytes.now) (method_in bytes.now j)) (noted subtypes.old count) }
 {
-    let MethodFound::At(_, place) = classfile::method_place(bytes, j) else {
+    let Some(place) = classfile::method_place(bytes, j) else {
         return rejected(count);
     };
     let version = classfile::version(bytes);
@@ -35,16 +34,13 @@ fn verify_numbered(bytes: &[u8], j: u8, loader: u8, subtypes: &mut [u16], count:
 pub fn verify_class(bytes: &[u8], loader: u8, subtypes: &mut [u16], count: u16) -> Verified
     ensures { verification result.accepts (noted subtypes.new result.count) ≡ posting loader (class_trace bytes.now) (noted subtypes.old count) }
 {
-    let n = classfile::method_count(bytes);
-    let mut j: u8 = 0;
     let mut total = count;
-    while j < n {
+    for j in 0..classfile::method_count(bytes) {
         let method = verify_numbered(bytes, j, loader, subtypes, total);
         total = method.count;
         if !method.accepts {
             return rejected(total);
         }
-        j += 1;
     }
     Verified {
         accepts: true,

@@ -25,16 +25,13 @@ pub(crate) fn meet_values(
 ) -> Verified
     ensures { verification result.accepts (noted subtypes.new result.count) ≡ posting loader (values_trace types.operands d names) (noted subtypes.old count) }
 {
-    let n = argument_count(names);
     let mut total = count;
-    let mut i: u8 = 0;
-    while i < n {
+    for i in 0..argument_count(names) {
         let m = meet_value(types, d, names, i);
         if !met(m) {
             return rejected(total);
         }
         total = post_meeting(m, loader, subtypes, total);
-        i += 1;
     }
     Verified {
         accepts: true,
@@ -89,12 +86,8 @@ fn mapped_operands(maps: &[u8], place: u32, n: u8) -> [u32; OPERANDS]
     ensures { (j : ℕ) → j < n → operand_at result j ≡ type_of_name (type_at maps.now (place + 19) j) }
 {
     let mut operands = [0; OPERANDS];
-    let mut i: u8 = 0;
-    while i < n {
-        let t = type_of_name(classfile::map_operand(maps, place, i));
-        let at = usize::from(i);
-        operands[at] = t;
-        i += 1;
+    for i in 0..n {
+        operands[usize::from(i)] = type_of_name(classfile::map_operand(maps, place, i));
     }
     operands
 }
@@ -167,8 +160,7 @@ fn meet_part(
 {
     let mut total = count;
     let mut row = near;
-    let mut i: u8 = 0;
-    while i < n {
+    for i in 0..n {
         let m = meet_place(maps, place, values, part, i);
         if !met(m) {
             return unmet(total);
@@ -176,7 +168,6 @@ fn meet_part(
         let posted = post_flow(m, loader, subtypes, total, row);
         total = posted.count;
         row = posted.near;
-        i += 1;
     }
     Flowed {
         accepts: true,
@@ -193,7 +184,7 @@ fn begun(flow: Flowed, places: u16) -> Flowed
     Flowed {
         accepts: flow.accepts,
         count: flow.count,
-        near: if near < places { 0 } else { near - places },
+        near: near.saturating_sub(places),
     }
 }
 

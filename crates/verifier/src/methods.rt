@@ -16,29 +16,32 @@ use crate::turns::{Step, flow_into, turn_at};
 use crate::types::{Types, entry_types};
 use definition::Signature;
 
-// The maps left behind a point: from that number on, the first at that place; or the point lies behind one of them.
+// The maps left: from that number on, the first at that place.
 #[derive(Clone, Copy)]
-pub enum Passed {
-    Inside,
-    To(u8, u32),
+pub struct Ahead {
+    pub number: u8,
+    pub place: u32,
 }
 
-// The maps from number i on, the first at that place, which lie at point p or behind it.
-pub(crate) fn pass(maps: &[u8], i: u8, place: u32, p: usize) -> Passed
+// The maps from number i on, the first at that place, which lie behind point p; none at all where one of them lies before it.
+pub(crate) fn pass(maps: &[u8], i: u8, place: u32, p: usize) -> Option<Ahead>
     requires { PlaceOf maps.now i place }
     ensures { (version : ℕ) (code : List ℕ) (all : List Map) (given : ℕ) → Passes maps.now result (maps_past version code all given p (left_from maps.now i)) }
 {
     if classfile::map_count(maps) <= i {
-        return Passed::To(i, place);
+        return Some(Ahead { number: i, place });
     }
     let offset = usize::from(classfile::map_offset(maps, place));
     if offset == p {
-        return Passed::To(i + 1, place + classfile::map_size(maps, place));
+        return Some(Ahead {
+            number: i + 1,
+            place: place + classfile::map_size(maps, place),
+        });
     }
     if offset < p {
-        Passed::Inside
+        None
     } else {
-        Passed::To(i, place)
+        Some(Ahead { number: i, place })
     }
 }
 
@@ -76,7 +79,7 @@ fn walk(
     let mut place: u32 = 1;
     while 0 < left {
         let run = quiet_run(version, code, maps, places, res, types, left, p, i, place);
-        let Passed::To(j, next) = pass(maps, run.map, run.place, run.point) else {
+        let Some(ahead) = pass(maps, run.map, run.place, run.point) else {
             return rejected(total);
         };
         let before = run.types;
@@ -88,13 +91,13 @@ fn walk(
         let step = turn.step;
         match step {
             Step::Stop => return rejected(total),
-            Step::End => return ended(maps, j, total),
+            Step::End => return ended(maps, ahead.number, total),
             Step::Next(q) => p = q,
         }
         let after = turn.types;
         types = after;
-        i = j;
-        place = next;
+        i = ahead.number;
+        place = ahead.place;
         left = run.left - 1;
     }
     rejected(total)

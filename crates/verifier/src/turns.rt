@@ -2,16 +2,17 @@
 ghost use Rattle.std.specs.Prelude.{◌≡◌, ℕ};
 ghost use Rattle.classfile.specs.Reading.{maps_of};
 ghost use Rattle.rows.specs.Posting.{noted};
-ghost use Rattle.verifier.specs.Lookups.{Indexed, target_of};
+ghost use Rattle.definition.specs.Verifier.{target};
+ghost use Rattle.verifier.specs.Lookups.{Indexed};
 ghost use Rattle.verifier.specs.Types.{types_of};
 ghost use Rattle.verifier.specs.Trace.{verification, posting, turning, taking, refused, target_trace, into_turn, start_turn, flowing, turned_to, turned};
 ghost use Rattle.verifier.specs.Answers.{next_of, change_of};
 
 use crate::changes::{Change, carried_out};
-use crate::decoding::{Reading, decode};
+use crate::decoding::decode;
 use crate::effects::effect_of;
 use crate::flows::{is_fitting, mapped_types, meet_map, meet_values, unmet};
-use crate::lookups::{Target, find_map, goes_on, target_of};
+use crate::lookups::{find_map, goes_on, target_of};
 use crate::notes::{Flowed, post_meeting};
 use crate::types::Types;
 use definition::Instruction;
@@ -116,11 +117,11 @@ fn start_at(
     }
 }
 
-// The flow into the target, if there is one.
+// The flow into the instruction's target, if it has one.
 fn flow_to_target(
     maps: &[u8],
     places: &[u32],
-    target: Target,
+    i: Instruction,
     types: Types,
     loader: u8,
     subtypes: &mut [u16],
@@ -128,22 +129,20 @@ fn flow_to_target(
     near: u16,
 ) -> Flowed
     requires { Indexed maps.now places.now }
-    ensures { (n : ℕ) → verification result.accepts (noted subtypes.new result.count) ≡ posting loader (target_trace n (maps_of maps.now) (target_of target) (types_of types)) (noted subtypes.old count) }
+    ensures { (n : ℕ) → verification result.accepts (noted subtypes.new result.count) ≡ posting loader (target_trace n (maps_of maps.now) (target i) (types_of types)) (noted subtypes.old count) }
 {
-    match target {
-        Target::Nowhere => Flowed {
+    let Some(q) = target_of(i) else {
+        return Flowed {
             accepts: true,
             count,
             near,
-        },
-        Target::To(q) => {
-            let place = find_map(maps, places, usize::from(q));
-            if place == 0 {
-                return unmet(count);
-            }
-            meet_map(maps, place, types, loader, subtypes, count, near)
-        }
+        };
+    };
+    let place = find_map(maps, places, usize::from(q));
+    if place == 0 {
+        return unmet(count);
     }
+    meet_map(maps, place, types, loader, subtypes, count, near)
 }
 
 // An instruction that ends at q, in code of n bytes, and leaves these types.
@@ -162,8 +161,7 @@ fn flow(
     requires { Indexed maps.now places.now }
     ensures { turning (next_of result.step (types_of result.types)) (noted subtypes.new result.count) ≡ taking loader (flowing n (maps_of maps.now) i q (types_of types)) (noted subtypes.old count) }
 {
-    let target = target_of(i);
-    let met = flow_to_target(maps, places, target, types, loader, subtypes, count, near);
+    let met = flow_to_target(maps, places, i, types, loader, subtypes, count, near);
     if !met.accepts {
         return stop(types, met.count);
     }
@@ -231,11 +229,12 @@ pub(crate) fn turn_at(
     requires { Indexed maps.now places.now }
     ensures { turning (next_of result.step (types_of result.types)) (noted subtypes.new result.count) ≡ taking loader (turned version code.now (maps_of maps.now) res p (types_of types)) (noted subtypes.old count) }
 {
-    let Reading::At(i, size) = decode(version, code, p) else {
+    let Some(read) = decode(version, code, p) else {
         return stop(types, count);
     };
+    let i = read.instruction;
     let change = carried_out(types, effect_of(types, i, res));
-    let end = p + size;
+    let end = p + read.size;
     let n = code.len();
     flow_from(
         n, maps, places, i, end, change, loader, subtypes, count, near,

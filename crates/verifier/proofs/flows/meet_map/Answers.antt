@@ -15,13 +15,10 @@ returns-then-not-is_fitting c = rw (c.unmet.ensures.0, c.unmet.ensures.1, map-un
 
 pub returns-then-types-from : goal.returns-then-types-from
 unfolding posting post_notes
-returns-then-types-from c = rw (c.unmet-then-types-from.ensures, c.unmet-then-types-from.ensures.1, map_other c.args.types c.args.maps.now c.args.place (λ z. c.if-types-from.true (z ∙ sym c.map_depth-depth.ensures ∙ sym c.from.ensures))) refl
+returns-then-types-from c = rw (c.unmet-then-types-from.ensures.0, c.unmet-then-types-from.ensures.1, map_other c.args.types c.args.maps.now c.args.place (λ z. c.if-types-from.true (z ∙ sym c.map_depth-depth.ensures ∙ sym c.from.ensures))) refl
 
 pub returns-then-not-locals : goal.returns-then-not-locals
 returns-then-not-locals c = then-stop _ _ _ _ _ c.meet_part-locals.ensures _ _ (map-parts _ _ _ (sym c.is_fitting.ensures ∙ c.if-not-is_fitting.false) (c.if-types-from.false ∙ c.from.ensures ∙ c.map_depth-depth.ensures) _ c.map_depth-depth.ensures) (not-true _ c.if-not-locals.true)
-
-pub slice_bounds-meet_part-end-2 : goal.slice_bounds-meet_part-end-2
-slice_bounds-meet_part-end-2 c = sym ((let it : length c.args.types.operands ≡ 16 = search rules in it))
 
 pub returns : goal.returns
 returns c = rw (c.begun.ensures.0, c.begun.ensures.1) (then-on _ _ _ _ _ c.meet_part-locals.ensures _ _ (map-parts _ _ _ (sym c.is_fitting.ensures ∙ c.if-not-is_fitting.false) (c.if-types-from.false ∙ c.from.ensures ∙ c.map_depth-depth.ensures) _ c.map_depth-depth.ensures) (not-false _ c.if-not-locals.false) _ c.meet_part-operands.ensures)

@@ -7,22 +7,18 @@ use Rattle.verifier.proofs.ValueLaws.{values-posted}
 use Rattle.verifier.proofs.flows.meet_values.Goals as goal
 
 pub loop-i-init : goal.loop-i-init
-loop-i-init c = (omega arith, refl, values-posted _ _ _ _ _ _ c.argument_count-n.ensures)
+loop-i-init c = values-posted _ _ _ _ _ _ c.argument_count-i-end.ensures
 
 pub returns-then-not-met : goal.returns-then-not-met
 returns-then-not-met c =
     rw c.rejected.ensures
-    (sym (meet-unmet _ _ _ _ _ c.loop-i-test.true (sym c.meet_value-m.ensures ∙ unmet-notes _ (sym c.met.ensures ∙ c.if-not-met.true))) ∙ c.loop-i.invariant.2)
+    (sym (meet-unmet _ _ _ _ _ c.loop-i-test.true (sym c.meet_value-m.ensures ∙ unmet-notes _ (sym c.met.ensures ∙ c.if-not-met.true))) ∙ c.loop-i.invariant)
 
 pub loop-i-preserved : goal.loop-i-preserved
 loop-i-preserved c =
-    let at = c.loop-i in (
-      omega arith,
-      c.post_meeting-total.auto.subtypes ∙ at.invariant.1,
-      rw c.post_meeting-total.ensures
-          (sym (meet-met _ _ _ _ _ c.loop-i-test.true _
-          (sym c.meet_value-m.ensures ∙ met-notes _ (sym c.met.ensures ∙ c.if-not-met.false))) ∙ at.invariant.2),
-    )
+    rw c.post_meeting-total.ensures
+    (sym (meet-met _ _ _ _ _ c.loop-i-test.true _ (sym c.meet_value-m.ensures ∙ met-notes _ (sym c.met.ensures ∙ c.if-not-met.false)))
+    ∙ c.loop-i.invariant)
 
 pub returns : goal.returns
-returns c = sym (meet-end _ _ _ _ _ c.loop-i-test.false) ∙ c.loop-i.invariant.2
+returns c = sym (meet-end _ _ _ _ _ c.loop-i-test.false) ∙ c.loop-i.invariant

@@ -8,8 +8,5 @@ use Rattle.verifier.proofs.flows.meet_values.Given as goal
 
 abbrev pub invariant-loop-i : goal.invariant-loop-i
 invariant-loop-i l =
-    (l.i ≤ l.n) × (length l.subtypes ≡ length l.initial.subtypes)
-    × (posting l.loader (meet_from (meet_value l.types.operands l.d l.names) (l.n - l.i) l.i) (noted l.subtypes l.total) ≡ posting l.loader (values_trace l.types.operands l.d l.names) (noted l.initial.subtypes l.count))
-
-abbrev pub decreases-loop-i : goal.decreases-loop-i
-decreases-loop-i l = l.n - l.i
+    posting l.loader (meet_from (meet_value l.types.operands l.d l.names) (l.i-end - l.i) l.i) (noted l.subtypes l.total)
+    ≡ posting l.loader (values_trace l.types.operands l.d l.names) (noted l.initial.subtypes l.count)

@@ -8,10 +8,10 @@ pub returns-in_default : goal.returns-in_default
 returns-in_default c = taken-stop _ _ _ _ (turned_none _ _ _ _ _ _ _ c.decode.ensures c.in_default.is) (c.stop.ensures _)
 
 pub overflow_add-end : goal.overflow_add-end
-overflow_add-end c = omega (arith, at-within _ _ _ _ c.decode.ensures _ _ c.in-At.is)
+overflow_add-end c = omega (arith, at-within _ _ _ _ c.decode.ensures _ c.in-Some.is)
 
 pub returns : goal.returns
 returns c =
     taken-same _ _ _ _ _
-    (turned-at _ _ _ _ _ _ _ c.decode.ensures _ _ c.in-At.is _ c.effect_of.ensures _ c.carried_out-change.ensures)
+    (turned-at _ _ _ _ _ _ _ c.decode.ensures _ c.in-Some.is _ c.effect_of.ensures _ c.carried_out-change.ensures)
     c.flow_from.ensures
