@@ -12,7 +12,4 @@ use borrow.Author.Rules.{rules}
 use Rattle.changing.proofs.counts.list_cells.Given as goal
 
 abbrev pub invariant-loop-i : goal.invariant-loop-i
-invariant-loop-i l = Copying (rows (cell_of l.old_counts l.n) counts_length 0) l.carried l.i × (l.i ≤ loads_cell) × ((j : ℕ) → loads_cell ≤ j → get_or l.carried j 0 ≡ 0)
-
-abbrev pub decreases-loop-i : goal.decreases-loop-i
-decreases-loop-i l = loads_cell - l.i
+invariant-loop-i l = Copying (rows (cell_of l.old_counts l.n) counts_length 0) l.carried l.i × ((j : ℕ) → loads_cell ≤ j → get_or l.carried j 0 ≡ 0)

@@ -11,13 +11,13 @@ use borrow.Author.Rules.{rules}
 use Rattle.changing.proofs.versions.keeps_later.Goals as goal
 
 pub loop-c-init : goal.loop-c-init
-loop-c-init c = (omega arith, rw (c.at-bytes.ensures, c.at-n.ensures) (ap (any (later_row _)) (rows_start _ _)))
+loop-c-init c = rw (c.at-bytes.ensures, c.at-n.ensures) (ap (any (later_row _)) (rows_start _ _))
 
 pub returns-then-later_row : goal.returns-then-later_row
-returns-then-later_row c = sym (any-hit _ _ _ _ c.loop-c-test.true (sym c.later_row.ensures ∙ c.if-later_row.true)) ∙ c.loop-c.invariant.1
+returns-then-later_row c = sym (any-hit _ _ _ _ c.loop-c-test.true (sym c.later_row.ensures ∙ c.if-later_row.true)) ∙ c.loop-c.invariant
 
 pub loop-c-preserved : goal.loop-c-preserved
-loop-c-preserved c = (omega arith, sym (any-on _ _ _ _ c.loop-c-test.true (sym c.later_row.ensures ∙ c.if-later_row.false)) ∙ c.loop-c.invariant.1)
+loop-c-preserved c = sym (any-on _ _ _ _ c.loop-c-test.true (sym c.later_row.ensures ∙ c.if-later_row.false)) ∙ c.loop-c.invariant
 
 pub returns : goal.returns
-returns c = sym (any-end _ _ _ _ c.loop-c-test.false) ∙ c.loop-c.invariant.1
+returns c = sym (any-end _ _ _ _ c.loop-c-test.false) ∙ c.loop-c.invariant

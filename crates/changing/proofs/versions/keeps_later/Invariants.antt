@@ -11,7 +11,4 @@ use Rattle.changing.proofs.versions.keeps_later.Given as goal
 
 abbrev pub invariant-loop-c : goal.invariant-loop-c
 invariant-loop-c l =
-    (l.c ≤ l.n) × (any (later_row (rows (λ i. get_or l.kept i 0) l.bytes 0)) (rows (class_row_at l.classes) (l.n - l.c) l.c) ≡ any (later_row (rows (λ i. get_or l.kept i 0) (get_or l.counts 1 0) 0)) (rows (class_row_at l.classes) (get_or l.counts 0 0) 0))
-
-abbrev pub decreases-loop-c : goal.decreases-loop-c
-decreases-loop-c l = l.n - l.c
+    any (later_row (rows (λ i. get_or l.kept i 0) l.bytes 0)) (rows (class_row_at l.classes) (l.n - l.c) l.c) ≡ any (later_row (rows (λ i. get_or l.kept i 0) (get_or l.counts 1 0) 0)) (rows (class_row_at l.classes) (get_or l.counts 0 0) 0)
