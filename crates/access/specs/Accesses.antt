@@ -18,10 +18,17 @@ use Rattle.frames.specs.Unused.{is_used}
 use Rattle.instructions.specs.Plans.{decoded, meaning, Fit}
 use Rattle.resolution.specs.Quick.{quick_base}
 use Rattle.access.specs.Declarers.{declaring_loader}
-pub use Rattle.access.specs.declared.Access.{Access}
-pub use Rattle.access.specs.declared.Access.TheVariants.{Unresolved, Resolved}
-pub use Rattle.access.specs.declared.Receiver.{Receiver}
-pub use Rattle.access.specs.declared.Receiver.TheVariants.{Wrong, Right}
+use Rattle.std.specs.Prelude as Rust
+use Rattle.definition.specs.declared.Refusal.{Refusal}
+use Rattle.instructions.specs.declared.Plan.{Plan}
+use Rattle.access.specs.declared.Access.{Access}
+
+-- an answer: what was looked up is missing, or it was found
+abbrev pub Answered : Type 0
+Answered = Rust.Result Access Refusal
+
+abbrev pub resolved : ℕ → Plan → Answered
+resolved one p = Rust.Ok (record { loader = one; plan = p })
 
 -- the classes that B gives, with the tables' constraints
 abbrev pub world_in : Base → Tables → World
@@ -33,23 +40,23 @@ ties_on ts one two types = new_ties ts one two types
 
 module _ (task : ℕ) (w : World) (os : Objects) (fs : List Frame) (F : List ℕ) (b q : ℕ) where
   -- an answer's meaning, where ties on those types are posted between the loader of the class that was found and `two`
-  unfoldable pub accessed : Bool → ℕ → List ℕ → Access → Result Progress
-  accessed room two types (Unresolved r) = refused r
-  accessed room two types (Resolved one p) = post w room (ties_on w.ties one two types) >>= λ w'. meaning task w' os fs F b q p
+  unfoldable pub accessed : Bool → ℕ → List ℕ → Answered → Result Progress
+  accessed room two types (Rust.Err r) = refused r
+  accessed room two types (Rust.Ok a) = post w room (ties_on w.ties a.loader two types) >>= λ w'. meaning task w' os fs F b q a.plan
 
 -- a plan that was found has room
-abbrev pub AccessFits : Base → Tables → ℕ → ℕ → Access → Type 0
-AccessFits B t k m (Unresolved r) = Unit {0}
-AccessFits B t k m (Resolved one p) = Fit B t k m p
+abbrev pub AccessFits : Base → Tables → ℕ → ℕ → Answered → Type 0
+AccessFits B t k m (Rust.Err r) = Unit {0}
+AccessFits B t k m (Rust.Ok a) = Fit B t k m a.plan
 
 -- the loader that an answer names beside its plan
-abbrev pub named : Access → Option ℕ
-named (Unresolved r) = none
-named (Resolved one p) = some one
+abbrev pub named : Answered → Option ℕ
+named (Rust.Err r) = none
+named (Rust.Ok a) = some a.loader
 
 -- The answer r is right for the instruction i of a frame with d operands and a class of that loader, whatever constraints, task, frames below, class, point
 -- and size there are: N L K E O F are the counts, classes, kept bytes, cache, objects and frames
-pub record Accessing (N L K E O F : List ℕ) (b d loader : ℕ) (room : List Frame → Bool) (types : List ℕ) (i : Instruction) (r : Access) : Type 0 where
+pub record Accessing (N L K E O F : List ℕ) (b d loader : ℕ) (room : List Frame → Bool) (types : List ℕ) (i : Instruction) (r : Answered) : Type 0 where
   pub says : (I S : List ℕ) (task : ℕ) (fs : List Frame) (k : Class) (p n : ℕ) → k.loader ≡ loader
       → (let B = quick_base N L K E in let t = tables N L K E I S O F in
       accessed task (world_in B t) (objects_of B t) fs F b (p + n) (room fs) loader types r
@@ -93,11 +100,11 @@ module _ (B : Base) (os : Objects) (f : Frame) (fs : List Frame) (i : Decoded) (
       take? (selected B s o.object.class) (Word 14) >>= λ m.
       ok (record { world = w; objects = os; frames = entry_frame m.class m.place o.number p.all ∷ past f i q.more f.locals ∷ fs; result = none })
 
--- The receiver: cells of a kind and bits are an object, of class e or below it, or a word says what they are not
+-- The receiver: cells of a kind and bits are an object, of class e or below it, or a refusal says what they are not
 
-abbrev pub Received : Base → Tables → ℕ → ℕ → ℕ → Receiver → Type 0
-Received B t e kind bits (Wrong w) = object! B (objects_of B t) e (value_of kind bits) ≡ refused (Word w)
-Received B t e kind bits (Right o) =
+abbrev pub Received : Base → Tables → ℕ → ℕ → ℕ → Rust.Result ℕ Refusal → Type 0
+Received B t e kind bits (Rust.Err r) = object! B (objects_of B t) e (value_of kind bits) ≡ refused r
+Received B t e kind bits (Rust.Ok o) =
     (object! B (objects_of B t) e (value_of kind bits) ≡ ok (record { number = o; object = object_at B t.objects o }))
     × (is_used t.counts o ≡ true)
     × (below (super_of B) (object_at B t.objects o).class e ≡ true)

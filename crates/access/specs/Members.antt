@@ -1,11 +1,11 @@
 -- Laws of fields and methods that were looked up: where a field stands in an object, what a receiver is, and the instructions case by case.
 use Rattle.std.specs.Prelude.{◌≡◌, Bool, List, [], ◌∷◌, ◌≢◌, ℕ, suc, ◌+◌, ◌<◌, ◌≤◌, length, get_or, eqb, leb}
 use Rattle.std.proofs.Math.Path.{refl, sym, ap}
-use Rattle.std.proofs.Common.{◌∙◌, append-nil, eqb-true, ne_eqb, ltb-true}
+use Rattle.std.proofs.Common.{◌∙◌, ⊎_elim, append-nil, eqb-true, ne_eqb, ltb-true}
 use Rattle.std.proofs.Math.Bool.{true, false}
 use Rattle.std.proofs.Math.Option.{none, some}
 use Rattle.definition.specs.declared.Signature.{Signature}
-use Rattle.definition.specs.Lists.{index_of, rows}
+use Rattle.definition.specs.Lists.{index_of}
 use Rattle.definition.specs.Requests.{at}
 use Rattle.definition.specs.Superclasses.{Below, nearest, below}
 use Rattle.definition.specs.Classes.{Base, Class, find, super_of, loader_of, slots, slot_is, has_field, signature_types, Selected, selected}
@@ -17,7 +17,7 @@ use Rattle.definition.specs.declared.Refusal.{Refusal}
 use Rattle.definition.specs.declared.Refusal.TheVariants.{Word, Wanted}
 use Rattle.definition.specs.Answers.{Result, refused, ok, ◌>>=◌, need, take?}
 use Rattle.definition.specs.Machine.{empty_value, int_value, null_value, unlisted_value, Objects, Frame, object!, Progress, execute}
-use Rattle.definition.specs.Tables.{Tables, tables, entry_at, value_of, object_at, used_fields, size_of, frame_of, objects_of, ties_of}
+use Rattle.definition.specs.Tables.{Tables, tables, value_of, object_at, used_fields, size_of, frame_of, objects_of, ties_of}
 use Rattle.laws.specs.Agreement.{super-falls}
 use Rattle.laws.specs.Upward.{nearest-below, below_true, below-trans}
 use Rattle.laws.specs.Slots.{slots-below}
@@ -26,22 +26,19 @@ use Rattle.laws.specs.Growth.{nth-lt}
 use Rattle.frames.specs.Unused.{is_used, used-there, used-none}
 use Rattle.instructions.specs.declared.Plan.{Plan}
 use Rattle.instructions.specs.Plans.{decoded, meaning, Fit}
-use Rattle.resolution.specs.declared.Found.{Found}
-use Rattle.resolution.specs.declared.Found.TheVariants.{At, Absent}
-use Rattle.resolution.specs.Quick.{quick_base, found, found_at, found-absent}
+use Rattle.resolution.specs.Quick.{quick_base}
+use Rattle.std.specs.Prelude as Rust
+use Rattle.std.specs.Prelude.{◌⊎◌}
+use Rattle.access.specs.declared.DeclaredField.{DeclaredField}
 use Rattle.access.specs.Declarers.{declaring_loader, loader-missing, loader-absent, loader-there, class-absent, class-there, selected_class}
-use Rattle.access.specs.Accesses.{Unresolved, Resolved, world_in, ties_on, accessed, Accessing, always, frame_room, read_field, write_field, call_method}
+use Rattle.access.specs.Accesses.{resolved, world_in, ties_on, accessed, Accessing, always, frame_room, read_field, write_field, call_method}
 
--- The cache, asked under a loader that was widened
+-- The field of name n and type t of the class c that is cached under loader l: what is missing, or the class that is cached and the one that declares it
 
-module _ (N L K E : List ℕ) (x l c : ℕ) (r : Found) (asked : r ≡ found (find (rows (entry_at E) (get_or N 2 0) 0) (at x c))) (wide : x ≡ l) where
-  pub cached : (e : ℕ) → r ≡ At e → find (quick_base N L K E).cache (at l c) ≡ some e
-  unfolding quick_base
-  cached e q = rw (← wide) (found_at _ e (sym asked ∙ q))
-
-  pub uncached : r ≡ Absent → find (quick_base N L K E).cache (at l c) ≡ none
-  unfolding quick_base
-  uncached q = rw (← wide) (found-absent _ (sym asked ∙ q))
+abbrev pub Declares : Base → ℕ → ℕ → ℕ → ℕ → Rust.Result DeclaredField Refusal → Type 0
+Declares B l c n t (Rust.Err r) =
+    ((r ≡ Wanted l c) × (find B.cache (at l c) ≡ none)) ⊎ ((r ≡ Word 7) × ((e : ℕ) × (find B.cache (at l c) ≡ some e) × (nearest (super_of B) (has_field B n t) e ≡ none)))
+Declares B l c n t (Rust.Ok d) = (find B.cache (at l c) ≡ some d.from) × (nearest (super_of B) (has_field B n t) d.from ≡ some d.class)
 
 -- Ties on one type
 
@@ -50,11 +47,11 @@ unfolding new_ties
 ties-one ts l m n = append-nil (new_tie ts l m n)
 
 -- what was found means its ties posted and the rest of the instruction
-resolved : (task : ℕ) (w : World) (os : Objects) (fs : List Frame) (F : List ℕ) (b q : ℕ) (room : Bool) (one two : ℕ) (types : List ℕ) (p : Plan) (us : List Tie) (rest : World → Result Progress)
+resolved-means : (task : ℕ) (w : World) (os : Objects) (fs : List Frame) (F : List ℕ) (b q : ℕ) (room : Bool) (one two : ℕ) (types : List ℕ) (p : Plan) (us : List Tie) (rest : World → Result Progress)
     → ties_on w.ties one two types ≡ us → ((z : World) → meaning task z os fs F b q p ≡ rest z)
-    → accessed task w os fs F b q room two types (Resolved one p) ≡ (post w room us >>= rest)
+    → accessed task w os fs F b q room two types (resolved one p) ≡ (post w room us >>= rest)
 unfolding accessed
-resolved task w os fs F b q room one two types p us rest e h = (λ i. post w room (e i) >>= λ z. h z i)
+resolved-means task w os fs F b q room one two types p us rest e h = (λ i. post w room (e i) >>= λ z. h z i)
 
 -- Where a field stands in an object
 
@@ -192,50 +189,58 @@ module _ (N L K E O F : List ℕ) (b d loader c : ℕ) where
       → ((I S : List ℕ) (task : ℕ) (fs : List Frame) (k : Class) (p n : ℕ) → k.loader ≡ loader
       → (let t = tables N L K E I S O F in execute task (world_in B t) (objects_of B t) (frame_of F b p d) fs k (decoded i n) i ≡ refused r))
       → declaring_loader B loader i ≡ none
-      → Accessing N L K E O F b d loader room types i (Unresolved r)
+      → Accessing N L K E O F b d loader room types i (Rust.Err r)
   unfolding accessed
   unresolved room types i r h o = record { says = λ I S task fs k p n e. sym (h I S task fs k p n e); fits = λ few I S k gs l. tt; declared = sym o }
 
   module _ (missing : find B.cache (at loader c) ≡ none) where
-    pub getfield-uncached : (n t : ℕ) → Accessing N L K E O F b d loader always (t ∷ []) (Getfield c n t) (Unresolved (Wanted loader c))
+    pub getfield-uncached : (n t : ℕ) → Accessing N L K E O F b d loader always (t ∷ []) (Getfield c n t) (Rust.Err (Wanted loader c))
     getfield-uncached n t = unresolved always (t ∷ []) (Getfield c n t) (Wanted loader c) (λ I S task fs k p m z.
         rw (← z) (getfield-wanted task (world_in B (tables N L K E I S O F)) (objects_of B (tables N L K E I S O F)) (frame_of F b p d) fs k (decoded (Getfield c n t) m) c n t (rw z missing)))
         (loader-missing B loader c (nearest (super_of B) (has_field B n t)) missing)
 
-    pub putfield-uncached : (n t : ℕ) → Accessing N L K E O F b d loader always (t ∷ []) (Putfield c n t) (Unresolved (Wanted loader c))
+    pub putfield-uncached : (n t : ℕ) → Accessing N L K E O F b d loader always (t ∷ []) (Putfield c n t) (Rust.Err (Wanted loader c))
     putfield-uncached n t = unresolved always (t ∷ []) (Putfield c n t) (Wanted loader c) (λ I S task fs k p m z.
         rw (← z) (putfield-wanted task (world_in B (tables N L K E I S O F)) (objects_of B (tables N L K E I S O F)) (frame_of F b p d) fs k (decoded (Putfield c n t) m) c n t (rw z missing)))
         (loader-missing B loader c (nearest (super_of B) (has_field B n t)) missing)
 
-    pub invoke-uncached : (s : Signature) → Accessing N L K E O F b d loader frame_room (signature_types s) (Invokevirtual c s) (Unresolved (Wanted loader c))
+    pub invoke-uncached : (s : Signature) → Accessing N L K E O F b d loader frame_room (signature_types s) (Invokevirtual c s) (Rust.Err (Wanted loader c))
     invoke-uncached s = unresolved frame_room (signature_types s) (Invokevirtual c s) (Wanted loader c) (λ I S task fs k p m z.
         rw (← z) (invoke-wanted task (world_in B (tables N L K E I S O F)) (objects_of B (tables N L K E I S O F)) (frame_of F b p d) fs k (decoded (Invokevirtual c s) m) c s (rw z missing)))
         (loader-missing B loader c (selected_class B s) missing)
 
   module _ (e : ℕ) (there : find B.cache (at loader c) ≡ some e) where
-    pub getfield-undeclared : (n t : ℕ) → nearest (super_of B) (has_field B n t) e ≡ none → Accessing N L K E O F b d loader always (t ∷ []) (Getfield c n t) (Unresolved (Word 7))
+    pub getfield-undeclared : (n t : ℕ) → nearest (super_of B) (has_field B n t) e ≡ none → Accessing N L K E O F b d loader always (t ∷ []) (Getfield c n t) (Rust.Err (Word 7))
     getfield-undeclared n t h = unresolved always (t ∷ []) (Getfield c n t) (Word 7) (λ I S task fs k p m z.
         getfield-absent task (world_in B (tables N L K E I S O F)) (objects_of B (tables N L K E I S O F)) (frame_of F b p d) fs k (decoded (Getfield c n t) m) c n t e (rw z there) h)
         (loader-absent B loader c (nearest (super_of B) (has_field B n t)) e there h)
 
-    pub putfield-undeclared : (n t : ℕ) → nearest (super_of B) (has_field B n t) e ≡ none → Accessing N L K E O F b d loader always (t ∷ []) (Putfield c n t) (Unresolved (Word 7))
+    pub putfield-undeclared : (n t : ℕ) → nearest (super_of B) (has_field B n t) e ≡ none → Accessing N L K E O F b d loader always (t ∷ []) (Putfield c n t) (Rust.Err (Word 7))
     putfield-undeclared n t h = unresolved always (t ∷ []) (Putfield c n t) (Word 7) (λ I S task fs k p m z.
         putfield-absent task (world_in B (tables N L K E I S O F)) (objects_of B (tables N L K E I S O F)) (frame_of F b p d) fs k (decoded (Putfield c n t) m) c n t e (rw z there) h)
         (loader-absent B loader c (nearest (super_of B) (has_field B n t)) e there h)
 
     pub invoke-undeclared : (s : Signature) → selected B s e ≡ none
-        → Accessing N L K E O F b d loader frame_room (signature_types s) (Invokevirtual c s) (Unresolved (Word 7))
+        → Accessing N L K E O F b d loader frame_room (signature_types s) (Invokevirtual c s) (Rust.Err (Word 7))
     invoke-undeclared s h = unresolved frame_room (signature_types s) (Invokevirtual c s) (Word 7) (λ I S task fs k p m z.
         invoke-absent task (world_in B (tables N L K E I S O F)) (objects_of B (tables N L K E I S O F)) (frame_of F b p d) fs k (decoded (Invokevirtual c s) m) c s e (rw z there) h)
         (loader-absent B loader c (selected_class B s) e there (class-absent B s e h))
 
+  -- a field that is missing
+  module _ (n t : ℕ) (r : Refusal) (missing : Declares B loader c n t (Rust.Err r)) where
+    pub getfield-refused : Accessing N L K E O F b d loader always (t ∷ []) (Getfield c n t) (Rust.Err r)
+    getfield-refused = ⊎_elim (λ h. rw h.0 (getfield-uncached h.1 n t)) (λ h. rw h.0 (getfield-undeclared h.1.0 h.1.1 n t h.1.2)) missing
+
+    pub putfield-refused : Accessing N L K E O F b d loader always (t ∷ []) (Putfield c n t) (Rust.Err r)
+    putfield-refused = ⊎_elim (λ h. rw h.0 (putfield-uncached h.1 n t)) (λ h. rw h.0 (putfield-undeclared h.1.0 h.1.1 n t h.1.2)) missing
+
   module _ (e : ℕ) (there : find B.cache (at loader c) ≡ some e) (s one : ℕ) (declares : one ≡ loader_of B s) (p : Plan) where
     pub getfield-right : (n t : ℕ) → nearest (super_of B) (has_field B n t) e ≡ some s → Rest N L K E O F b d unlimited (λ B os f fs i. read_field B os f fs i e s n t) p
-        → Accessing N L K E O F b d loader always (t ∷ []) (Getfield c n t) (Resolved one p)
+        → Accessing N L K E O F b d loader always (t ∷ []) (Getfield c n t) (resolved one p)
     getfield-right n t found q = record {
       says = λ I S task fs k x y z.
           let T : Tables = tables N L K E I S O F in
-          resolved task (world_in B T) (objects_of B T) fs F b (x + y) true one loader (t ∷ []) p (new_tie (ties_of T) one loader t)
+          resolved-means task (world_in B T) (objects_of B T) fs F b (x + y) true one loader (t ∷ []) p (new_tie (ties_of T) one loader t)
           (read_field B (objects_of B T) (frame_of F b x d) fs (decoded (Getfield c n t) y) e s n t) (ties-one (ties_of T) one loader t)
           (λ w. q.says I S task fs w x (decoded (Getfield c n t) y))
           ∙ rw (declares, ← z) (sym (getfield-found task (world_in B T) (objects_of B T) (frame_of F b x d) fs k (decoded (Getfield c n t) y) c n t e (rw z there) s found));
@@ -244,11 +249,11 @@ module _ (N L K E O F : List ℕ) (b d loader c : ℕ) where
     }
 
     pub putfield-right : (n t : ℕ) → nearest (super_of B) (has_field B n t) e ≡ some s → Rest N L K E O F b d unlimited (λ B os f fs i. write_field B os f fs i e s n t) p
-        → Accessing N L K E O F b d loader always (t ∷ []) (Putfield c n t) (Resolved one p)
+        → Accessing N L K E O F b d loader always (t ∷ []) (Putfield c n t) (resolved one p)
     putfield-right n t found q = record {
       says = λ I S task fs k x y z.
           let T : Tables = tables N L K E I S O F in
-          resolved task (world_in B T) (objects_of B T) fs F b (x + y) true one loader (t ∷ []) p (new_tie (ties_of T) one loader t)
+          resolved-means task (world_in B T) (objects_of B T) fs F b (x + y) true one loader (t ∷ []) p (new_tie (ties_of T) one loader t)
           (write_field B (objects_of B T) (frame_of F b x d) fs (decoded (Putfield c n t) y) e s n t) (ties-one (ties_of T) one loader t)
           (λ w. q.says I S task fs w x (decoded (Putfield c n t) y))
           ∙ rw (declares, ← z) (sym (putfield-found task (world_in B T) (objects_of B T) (frame_of F b x d) fs k (decoded (Putfield c n t) y) c n t e (rw z there) s found));
@@ -257,12 +262,12 @@ module _ (N L K E O F : List ℕ) (b d loader c : ℕ) where
     }
 
     pub invoke-right : (g : Signature) (j : ℕ) → selected B g e ≡ some (record { class = s; place = j }) → Rest N L K E O F b d frames_left (λ B os f fs i. call_method B os f fs i e g) p
-        → Accessing N L K E O F b d loader frame_room (signature_types g) (Invokevirtual c g) (Resolved one p)
+        → Accessing N L K E O F b d loader frame_room (signature_types g) (Invokevirtual c g) (resolved one p)
     unfolding signature_ties
     invoke-right g j found q = record {
       says = λ I S task fs k x y z.
           let T : Tables = tables N L K E I S O F in
-          resolved task (world_in B T) (objects_of B T) fs F b (x + y) (frame_room fs) one loader (signature_types g) p (signature_ties (ties_of T) one loader g)
+          resolved-means task (world_in B T) (objects_of B T) fs F b (x + y) (frame_room fs) one loader (signature_types g) p (signature_ties (ties_of T) one loader g)
           (call_method B (objects_of B T) (frame_of F b x d) fs (decoded (Invokevirtual c g) y) e g) refl
           (λ w. q.says I S task fs w x (decoded (Invokevirtual c g) y))
           ∙ rw (declares, ← z)

@@ -19,7 +19,9 @@ use Rattle.instructions.specs.declared.Plan.TheVariants.{Refuse, Keep, Above, Fi
 use Rattle.instructions.specs.Plans.{meaning}
 use Rattle.instructions.specs.Operands.{is_kind, pop-none, pop-some, kind-is, kind-not, take_past, take_at}
 use Rattle.resolution.specs.Quick.{quick_base}
-use Rattle.access.specs.Accesses.{Receiver, Wrong, Right, Received, read_field, write_field, call_method}
+use Rattle.std.specs.Prelude as Rust
+use Rattle.definition.specs.declared.Refusal.{Refusal}
+use Rattle.access.specs.Accesses.{Received, read_field, write_field, call_method}
 use Rattle.access.specs.Passing.{pop-all, pop-few}
 use Rattle.access.specs.Members.{field-used, unlimited, frames_left, Rest}
 
@@ -31,17 +33,17 @@ module _ (N L K E O F : List ℕ) (b d e : ℕ) where
   T I S = tables N L K E I S O F
 
   -- an operand that was read, and what it is as a receiver
-  module _ (kind bits x : ℕ) (reads : value_of kind bits ≡ operand_at F b x) (r : Receiver) (receives : (I S G : List ℕ) → Received B (tables N L K E I S O G) e kind bits r) where
-    wrong : (w : ℕ) → r ≡ Wrong w → (I S : List ℕ) → object! B (objects_of B (T I S)) e (operand_at F b x) ≡ refused (Word w)
+  module _ (kind bits x : ℕ) (reads : value_of kind bits ≡ operand_at F b x) (r : Rust.Result ℕ Refusal) (receives : (I S G : List ℕ) → Received B (tables N L K E I S O G) e kind bits r) where
+    wrong : (w : Refusal) → r ≡ Rust.Err w → (I S : List ℕ) → object! B (objects_of B (T I S)) e (operand_at F b x) ≡ refused w
     wrong w q I S = rw (← reads) (rw q at (receives I S F))
 
-    right : (o : ℕ) → r ≡ Right o → (I S : List ℕ) → object! B (objects_of B (T I S)) e (operand_at F b x) ≡ ok (record { number = o; object = object_at B O o })
+    right : (o : ℕ) → r ≡ Rust.Ok o → (I S : List ℕ) → object! B (objects_of B (T I S)) e (operand_at F b x) ≡ ok (record { number = o; object = object_at B O o })
     right o q I S = rw (← reads) (rw q at (receives I S F)).0
 
-    there : (o : ℕ) → r ≡ Right o → is_used N o ≡ true
+    there : (o : ℕ) → r ≡ Rust.Ok o → is_used N o ≡ true
     there o q = (rw q at (receives [] [] [])).1
 
-    under : (o : ℕ) → r ≡ Right o → below (super_of B) (object_at B O o).class e ≡ true
+    under : (o : ℕ) → r ≡ Rust.Ok o → below (super_of B) (object_at B O o).class e ≡ true
     under o q = (rw q at (receives [] [] [])).2
 
   -- getfield of field n of type t, which class s declares
@@ -53,16 +55,16 @@ module _ (N L K E O F : List ℕ) (b d e : ℕ) where
     unfolding read_field meaning frame_of ◌>>=◌
     read_none h = record { says = λ I S task fs w p i. rw (pop-none (operand_at F b) d h); fits = λ few I S k m l. tt }
 
-    module _ (deep : d ≢ 0) (kind bits : ℕ) (reads : value_of kind bits ≡ operand_at F b (d - 1)) (r : Receiver)
+    module _ (deep : d ≢ 0) (kind bits : ℕ) (reads : value_of kind bits ≡ operand_at F b (d - 1)) (r : Rust.Result ℕ Refusal)
         (receives : (I S G : List ℕ) → Received B (tables N L K E I S O G) e kind bits r) where
-      pub read-wrong : (w : ℕ) → r ≡ Wrong w → Read (Refuse (Word w))
+      pub read-wrong : (w : Refusal) → r ≡ Rust.Err w → Read (Refuse w)
       unfolding read_field meaning frame_of ◌>>=◌
       read-wrong w q = record {
         says = λ I S task fs z p i. rw (pop-some (operand_at F b) d deep, wrong kind bits (d - 1) reads r receives w q I S);
         fits = λ few I S k m l. tt;
       }
 
-      module _ (o : ℕ) (is : r ≡ Right o) where
+      module _ (o : ℕ) (is : r ≡ Rust.Ok o) where
         pub read-absent : index_of (slot_is s n t) (slots B s) ≡ none → Read (Refuse (Word 14))
         unfolding read_field meaning frame_of ◌>>=◌ take?
         read-absent h = record {
@@ -113,9 +115,9 @@ module _ (N L K E O F : List ℕ) (b d e : ℕ) where
         fits = λ few I S k m l. tt;
       }
 
-      module _ (two : d - 1 ≢ 0) (fit : is_kind t kind bits ≡ true) (x y : ℕ) (reads : value_of x y ≡ operand_at F b (d - 1 - 1)) (r : Receiver)
+      module _ (two : d - 1 ≢ 0) (fit : is_kind t kind bits ≡ true) (x y : ℕ) (reads : value_of x y ≡ operand_at F b (d - 1 - 1)) (r : Rust.Result ℕ Refusal)
           (receives : (I S G : List ℕ) → Received B (tables N L K E I S O G) e x y r) where
-        pub write-wrong : (w : ℕ) → r ≡ Wrong w → Written (Refuse (Word w))
+        pub write-wrong : (w : Refusal) → r ≡ Rust.Err w → Written (Refuse w)
         unfolding write_field meaning frame_of ◌>>=◌
         write-wrong w q = record {
           says = λ I S task fs z p i.
@@ -129,7 +131,7 @@ module _ (N L K E O F : List ℕ) (b d e : ℕ) where
           fits = λ few I S k m l. tt;
         }
 
-        module _ (o : ℕ) (is : r ≡ Right o) where
+        module _ (o : ℕ) (is : r ≡ Rust.Ok o) where
           pub write-absent : index_of (slot_is s n t) (slots B s) ≡ none → Written (Refuse (Word 14))
           unfolding write_field meaning frame_of ◌>>=◌ take?
           write-absent h = record {
@@ -207,9 +209,9 @@ module _ (N L K E O F : List ℕ) (b d e : ℕ) where
           fits = λ few I S k m l. tt;
         }
 
-        module _ (fit : u ≡ true) (x y : ℕ) (reads : value_of x y ≡ operand_at F b (d - n - 1)) (r : Receiver)
+        module _ (fit : u ≡ true) (x y : ℕ) (reads : value_of x y ≡ operand_at F b (d - n - 1)) (r : Rust.Result ℕ Refusal)
             (receives : (I S G : List ℕ) → Received B (tables N L K E I S O G) e x y r) where
-          pub call-wrong : (w : ℕ) → r ≡ Wrong w → Called (Refuse (Word w))
+          pub call-wrong : (w : Refusal) → r ≡ Rust.Err w → Called (Refuse w)
           unfolding call_method meaning frame_of ◌>>=◌ need
           call-wrong w q = record {
             says = λ I S task fs z p i.
@@ -217,7 +219,7 @@ module _ (N L K E O F : List ℕ) (b d e : ℕ) where
             fits = λ few I S k m l. tt;
           }
 
-          module _ (o : ℕ) (is : r ≡ Right o) where
+          module _ (o : ℕ) (is : r ≡ Rust.Ok o) where
             pub call-unselected : selected B g (object_at B O o).class ≡ none → Called (Refuse (Word 14))
             unfolding call_method meaning frame_of ◌>>=◌ need take?
             call-unselected h = record {

@@ -3,45 +3,62 @@ ghost use Rattle.std.specs.Prelude.{◌≡◌, [], ◌∷◌};
 ghost use Rattle.std.proofs.Math.Option.{some};
 ghost use Rattle.definition.specs.Superclasses.{nearest};
 ghost use Rattle.definition.specs.Classes.{super_of, has_field};
-ghost use Rattle.resolution.specs.Quick.{quick_base};
+ghost use Rattle.resolution.specs.Quick.{base_of, over};
 ghost use Rattle.access.specs.Accesses.{Accessing, always, read_field, write_field};
-ghost use Rattle.access.specs.Members.{unlimited, Rest};
+ghost use Rattle.access.specs.Members.{unlimited, Rest, Declares};
 
 use crate::receivers::received;
-use crate::{Access, Receiver};
+use crate::{Access, DeclaredField};
 use definition::numbers::{FIELD_LIMIT, WORD_ABSENT, WORD_STUCK};
 use definition::{Instruction, Refusal};
 use frames::Top;
 use instructions::Plan;
-use resolution::Found;
+use resolution::Base;
 
-// getfield, once class s is found to declare the field: the value of an object's field takes the object's place.
+// The field of that name and type of a class that is looked up under a loader, or what is missing.
+fn find_field(
+    base: &Base,
+    loader: u8,
+    class: u16,
+    name: u16,
+    of: u16,
+) -> Result<DeclaredField, Refusal>
+    ensures { Declares (base_of base.now) loader class name of result }
+{
+    let Some(from) = base.find(u16::from(loader), class) else {
+        return Err(Refusal::Wanted(loader, class));
+    };
+    let Some(declaring) = base.nearest_field(from, name, of) else {
+        return Err(Refusal::Word(WORD_ABSENT));
+    };
+    Ok(DeclaredField {
+        from,
+        class: declaring,
+    })
+}
+
+// getfield, once the field is found: the value of an object's field takes the object's place.
 fn read_field(
-    counts: &[u16],
-    classes: &[u16],
-    kept: &[u8],
-    cache: &[u16],
+    base: &Base,
     objects: &[u32],
     frames: &[u32],
     top: Top,
-    e: u32,
-    s: u32,
+    field: DeclaredField,
     name: u16,
     of: u16,
 ) -> Plan
-    requires { let B = quick_base counts.now classes.now kept.now cache.now in nearest (super_of B) (has_field B name of) e ≡ some s }
-    ensures { Rest counts.now classes.now kept.now cache.now objects.now frames.now top.base top.depth unlimited (λ B os f fs i. read_field B os f fs i e s name of) result }
+    requires { let B = base_of base.now in nearest (super_of B) (has_field B name of) field.from ≡ some field.class }
+    ensures { over Rest base.now objects.now frames.now top.base top.depth unlimited (λ B os f fs i. read_field B os f fs i field.from field.class name of) result }
 {
     let d = top.depth;
     if d == 0 {
         return instructions::refuse(WORD_STUCK);
     }
     let x = frames::operand(frames, top.base, d - 1);
-    let r = received(counts, classes, kept, cache, objects, e, x);
-    match r {
-        Receiver::Wrong(word) => instructions::refuse(word),
-        Receiver::Right(o) => {
-            let Found::At(j) = resolution::slot_of(counts, classes, kept, cache, s, name, of) else {
+    match received(base, objects, field.from, x) {
+        Err(refusal) => Plan::Refuse(refusal),
+        Ok(o) => {
+            let Some(j) = base.slot_of(field.class, name, of) else {
                 return instructions::refuse(WORD_STUCK);
             };
             if FIELD_LIMIT <= j {
@@ -53,22 +70,18 @@ fn read_field(
     }
 }
 
-// putfield, once class s is found to declare the field: the value above the object goes into the object's field.
+// putfield, once the field is found: the value above the object goes into the object's field.
 fn set_field(
-    counts: &[u16],
-    classes: &[u16],
-    kept: &[u8],
-    cache: &[u16],
+    base: &Base,
     objects: &[u32],
     frames: &[u32],
     top: Top,
-    e: u32,
-    s: u32,
+    field: DeclaredField,
     name: u16,
     of: u16,
 ) -> Plan
-    requires { let B = quick_base counts.now classes.now kept.now cache.now in nearest (super_of B) (has_field B name of) e ≡ some s }
-    ensures { Rest counts.now classes.now kept.now cache.now objects.now frames.now top.base top.depth unlimited (λ B os f fs i. write_field B os f fs i e s name of) result }
+    requires { let B = base_of base.now in nearest (super_of B) (has_field B name of) field.from ≡ some field.class }
+    ensures { over Rest base.now objects.now frames.now top.base top.depth unlimited (λ B os f fs i. write_field B os f fs i field.from field.class name of) result }
 {
     let d = top.depth;
     if d == 0 {
@@ -83,11 +96,10 @@ fn set_field(
         return instructions::refuse(WORD_STUCK);
     }
     let x = frames::operand(frames, top.base, last - 1);
-    let r = received(counts, classes, kept, cache, objects, e, x);
-    match r {
-        Receiver::Wrong(word) => instructions::refuse(word),
-        Receiver::Right(o) => {
-            let Found::At(j) = resolution::slot_of(counts, classes, kept, cache, s, name, of) else {
+    match received(base, objects, field.from, x) {
+        Err(refusal) => Plan::Refuse(refusal),
+        Ok(o) => {
+            let Some(j) = base.slot_of(field.class, name, of) else {
                 return instructions::refuse(WORD_STUCK);
             };
             if FIELD_LIMIT <= j {
@@ -99,59 +111,37 @@ fn set_field(
 }
 
 pub fn getfield(
-    counts: &[u16],
-    classes: &[u16],
-    kept: &[u8],
-    cache: &[u16],
+    base: &Base,
     objects: &[u32],
     frames: &[u32],
     top: Top,
     class: u16,
     name: u16,
     of: u16,
-) -> Access
-    ensures { Accessing counts.now classes.now kept.now cache.now objects.now frames.now top.base top.depth top.loader always (of ∷ []) (Instruction.Getfield class name of) result }
+) -> Result<Access, Refusal>
+    ensures { over Accessing base.now objects.now frames.now top.base top.depth top.loader always (of ∷ []) (Instruction.Getfield class name of) result }
 {
-    let Found::At(e) = resolution::find(counts, cache, u16::from(top.loader), class) else {
-        return Access::Unresolved(Refusal::Wanted(top.loader, class));
-    };
-    let Found::At(s) = resolution::nearest_field(counts, classes, kept, cache, e, name, of) else {
-        return Access::Unresolved(Refusal::Word(WORD_ABSENT));
-    };
-    let one = resolution::loader_of(counts, classes, s);
-    Access::Resolved(
-        one,
-        read_field(
-            counts, classes, kept, cache, objects, frames, top, e, s, name, of,
-        ),
-    )
+    let field = find_field(base, top.loader, class, name, of)?;
+    Ok(Access {
+        loader: base.loader_of(field.class),
+        plan: read_field(base, objects, frames, top, field, name, of),
+    })
 }
 
 pub fn putfield(
-    counts: &[u16],
-    classes: &[u16],
-    kept: &[u8],
-    cache: &[u16],
+    base: &Base,
     objects: &[u32],
     frames: &[u32],
     top: Top,
     class: u16,
     name: u16,
     of: u16,
-) -> Access
-    ensures { Accessing counts.now classes.now kept.now cache.now objects.now frames.now top.base top.depth top.loader always (of ∷ []) (Instruction.Putfield class name of) result }
+) -> Result<Access, Refusal>
+    ensures { over Accessing base.now objects.now frames.now top.base top.depth top.loader always (of ∷ []) (Instruction.Putfield class name of) result }
 {
-    let Found::At(e) = resolution::find(counts, cache, u16::from(top.loader), class) else {
-        return Access::Unresolved(Refusal::Wanted(top.loader, class));
-    };
-    let Found::At(s) = resolution::nearest_field(counts, classes, kept, cache, e, name, of) else {
-        return Access::Unresolved(Refusal::Word(WORD_ABSENT));
-    };
-    let one = resolution::loader_of(counts, classes, s);
-    Access::Resolved(
-        one,
-        set_field(
-            counts, classes, kept, cache, objects, frames, top, e, s, name, of,
-        ),
-    )
+    let field = find_field(base, top.loader, class, name, of)?;
+    Ok(Access {
+        loader: base.loader_of(field.class),
+        plan: set_field(base, objects, frames, top, field, name, of),
+    })
 }

@@ -8,22 +8,21 @@ mod methods; // methods.rt: invokevirtual
 mod passing; // passing.rt: the arguments of a call
 mod receivers; // receivers.rt: whether a receiver is right
 
-use definition::Refusal;
 pub use fields::{getfield, putfield};
 use instructions::Plan;
 pub use making::new_object;
 pub use methods::invokevirtual;
 
-// What was looked up is missing; or it was found in a class of that loader, and a plan says the rest.
+// What was looked up was found in a class of that loader, and a plan says the rest.
 #[derive(Clone, Copy)]
-pub enum Access {
-    Unresolved(Refusal),
-    Resolved(u16, Plan),
+pub struct Access {
+    pub loader: u16,
+    pub plan: Plan,
 }
 
-// Whether a receiver is right: an object's number, or the word of its refusal.
+// A field that was looked up: the class from which it was sought, and the class that declares it.
 #[derive(Clone, Copy)]
-enum Receiver {
-    Right(u32),
-    Wrong(u8),
+struct DeclaredField {
+    from: u32,
+    class: u32,
 }

@@ -1,19 +1,17 @@
 // new: the class is looked up under the frame class's loader; the class's name stands inline.
+ghost use Rattle.resolution.specs.Quick.{over};
 ghost use Rattle.access.specs.Makings.{Making};
 
 use definition::Refusal;
 use definition::numbers::{OBJECT_LIMIT, OPERAND_LIMIT, WORD_FULL, WORD_SHARE};
 use frames::Top;
 use instructions::Plan;
-use resolution::Found;
+use resolution::Base;
 
 // The object gets the number `free`, and the frame's task made `made` objects before it. The plan means the instruction where the first is the lowest number unused and
 // the second, unless the task is the quote, the number of its objects: neither is looked for here.
 pub fn new_object(
-    counts: &[u16],
-    classes: &[u16],
-    kept: &[u8],
-    cache: &[u16],
+    base: &Base,
     objects: &[u32],
     frames: &[u32],
     top: Top,
@@ -21,9 +19,9 @@ pub fn new_object(
     free: u16,
     made: u16,
 ) -> Plan
-    ensures { Making counts.now classes.now kept.now cache.now objects.now frames.now top.task top.base top.depth top.loader class free made result }
+    ensures { over Making base.now objects.now frames.now top.task top.base top.depth top.loader class free made result }
 {
-    let Found::At(e) = resolution::find(counts, cache, u16::from(top.loader), class) else {
+    let Some(e) = base.find(u16::from(top.loader), class) else {
         return Plan::Refuse(Refusal::Wanted(top.loader, class));
     };
     if frames::is_share_used(top.task, made) {

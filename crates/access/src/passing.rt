@@ -16,13 +16,11 @@ pub(crate) fn are_kinds(frames: &[u32], b: u32, k: u32, list: Arguments) -> bool
     ensures { need result (Word word_stuck) ≡ kinds! (types_of list) (rows (operand_at frames.now b) (length (types_of list)) k) }
 {
     let n = cells::arguments::argument_count(list);
-    let mut i: u8 = 0;
-    while i < n {
+    for i in 0..n {
         let v = frames::operand(frames, b, k + u32::from(i));
         if !instructions::is_kind(cells::arguments::argument_at(list, i), v) {
             return false;
         }
-        i += 1;
     }
     true
 }

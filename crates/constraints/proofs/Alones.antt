@@ -1,65 +1,60 @@
 -- Rows that break agreement by themselves: whether one does, the first of them, and that no chain is better where there is one.
 use mathlib.Core.Path.{◌≡◌, refl, sym, ap, subst, ◌∙◌}
 use mathlib.Core.Bool.{Bool, true, false, false≢true, not, ◌&&◌}
-use mathlib.Core.Option.{Option, none, some, none-ne-some, some-injective}
+use mathlib.Core.Option.{Option, none, some, none-ne-some}
 use mathlib.Core.List.{List, [], ◌∷◌}
 use mathlib.Core.Logic.{◌⊎◌, inl, inr}
-use Prim.Native.Nat.{ℕ, zero, suc, ◌+◌, ◌<◌, ◌≤◌}
+use Prim.Native.Nat.{ℕ, ◌+◌, ◌<◌, ◌≤◌}
 use native.Mathlib.Omega.{arith}
 use lib.ListN.{length, get_or, set}
 use lib.Seq.{get_or-set_same}
 use lib.Dec.{ltb}
 use borrow.Author.Tests.{eq-eqb, ne_eqb, lt-ltb, le-ltb, ltb-true}
+use Rattle.std.specs.Prelude as P
 use Rattle.definition.specs.Lists.{rows}
 use Rattle.definition.specs.Superclasses.{Below, Falls, below, same, up}
 use Rattle.definition.specs.Reasons.{precedes}
 use Rattle.laws.specs.Upward.{below_true, true_below}
 use Rattle.laws.specs.Earlier.{row_before}
-use Rattle.constraints.specs.Upward.{class_of}
+use Rattle.cells.specs.Optional.{optional}
 use Rattle.constraints.specs.Walks.{bad_over, ends_over, InRange, Sole}
 use Rattle.constraints.specs.Choosing.{no_size, held, pick, NoBetter, OneSize, WalkFrom, Chosen, alone, considered_alone, Alone, BestOf}
 use Rattle.constraints.proofs.Rows.{Order, less, equal, more, order, both_true}
 use Rattle.constraints.proofs.Choices.{pick-new, pick-still, pick-from}
 
--- Upward from a class: `next` is one more than the class that is looked at, or 0
+-- Upward from a class: `next` is the class that is looked at, if there is one
 
 module _ (sup : ℕ → Option ℕ) (falls : Falls sup) (c d : ℕ) where
-  abbrev From : ℕ → Type 0
-  From zero = ⊥
-  From (suc x) = Below sup x d
+  abbrev From : P.Option ℕ → Type 0
+  From P.None = ⊥
+  From (P.Some x) = Below sup x d
 
-  pub record Climbing (next : ℕ) : Type 0 where
+  pub record Climbing (next : P.Option ℕ) : Type 0 where
     pub into : Below sup c d → From next
     pub back : From next → Below sup c d
 
-  pub climbing-first : (next : ℕ) → next ≡ suc c → Climbing next
-  climbing-first next e = rw e (record { into = λ b. b; back = λ b. b })
+  pub climbing-first : Climbing (P.Some c)
+  climbing-first = record { into = λ b. b; back = λ b. b }
 
-  pub climbing-here : (next x : ℕ) → next ≡ suc x → x ≡ d → Climbing next → true ≡ below sup c d
+  pub climbing-here : (next : P.Option ℕ) (x : ℕ) → next ≡ P.Some x → x ≡ d → Climbing next → true ≡ below sup c d
   climbing-here next x e q k = sym (true_below sup falls c d (k.back (rw e (same q))))
 
-  pub climbing-on : (next x r : ℕ) → next ≡ suc x → (x ≡ d → ⊥) → sup x ≡ class_of r → Climbing next → Climbing r
-  unfolding class_of
-  climbing-on next x r e n s k = record { into = λ b. into r s (rw e at (k.into b)); back = λ b. k.back (rw e (back r s b)) }
+  pub climbing-on : (next : P.Option ℕ) (x : ℕ) (r : P.Option ℕ) → next ≡ P.Some x → (x ≡ d → ⊥) → r ≡ optional (sup x) → Climbing next → Climbing r
+  climbing-on next x r e n s k = rw s (record { into = λ b. into (rw e at (k.into b)); back = λ b. k.back (rw e (back (sup x) refl b)) })
     where
-      into : (r : ℕ) → sup x ≡ class_of r → Below sup x d → From r
-      into r s (same q) = absurd (n q)
-      into zero s (up {p = p} f b) = absurd (none-ne-some p (sym s ∙ f))
-      into (suc y) s (up {p = p} f b) = rw (some-injective y p (sym s ∙ f)) b
+      into : Below sup x d → From (optional (sup x))
+      into (same q) = absurd (n q)
+      into (up f b) = rw f b
 
-      back : (r : ℕ) → sup x ≡ class_of r → From r → Below sup x d
-      back zero s b = absurd b
-      back (suc y) s b = up s b
+      back : (o : Option ℕ) → sup x ≡ o → From (optional o) → Below sup x d
+      back none f b = absurd b
+      back (some y) f b = up f b
 
-  pub climbing-end : (next : ℕ) → next ≤ 0 → Climbing next → false ≡ below sup c d
+  pub climbing-end : (next : P.Option ℕ) → next ≡ P.None → Climbing next → false ≡ below sup c d
   climbing-end next h k = go (below sup c d) refl
     where
-      none : (n : ℕ) → n ≤ 0 → From n → ⊥
-      none zero l b = b
-      none (suc n) l b = omega arith
-
       go : (t : Bool) → below sup c d ≡ t → false ≡ t
-      go true e = absurd (none next h (k.into (below_true sup falls c d e)))
+      go true e = absurd (rw h at (k.into (below_true sup falls c d e)))
       go false e = refl
 
 -- Bad for a class, by the steps of the test

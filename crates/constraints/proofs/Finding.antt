@@ -1,14 +1,13 @@
 -- What the two searches leave is why the store of the tables doesn't agree, and so is what is listed of it.
 use mathlib.Core.Path.{◌≡◌, refl, sym, ap, ◌∙◌}
-use mathlib.Core.Bool.{Bool, true, false}
+use mathlib.Core.Bool.{true, false}
 use mathlib.Core.Option.{Option, none, some}
 use mathlib.Core.List.{List, ◌++◌}
 use mathlib.Core.Logic.{◌⊎◌, inl, inr}
-use Prim.Native.Nat.{ℕ, ◌+◌, ◌≤◌}
+use Prim.Native.Nat.{min, ℕ, ◌+◌, ◌≤◌}
 use native.Mathlib.Omega.{arith}
 use lib.ListN.{get_or, set}
-use lib.Dec.{leb}
-use borrow.Author.Tests.{leb-false, ne_eqb}
+use borrow.Author.Tests.{ne_eqb}
 use Rattle.definition.specs.Numbers.{cache_limit, tie_limit, subtype_limit, count_cache, count_ties, count_subtypes, tie_numbers_cell, subtype_numbers_cell}
 use Rattle.definition.specs.Lists.{rows, write_rows}
 use Rattle.definition.specs.declared.Reply.{Reply}
@@ -17,20 +16,15 @@ use Rattle.definition.specs.Reasons.{tie_links, subtype_links, reason_over, trie
 use Rattle.laws.specs.Earlier.{row_before}
 use Rattle.layout.specs.Places.{rows-length}
 use Rattle.rows.specs.Numbers.{numbers_fit}
-use Rattle.constraints.specs.Agreement.{at_most, super_in}
+use Rattle.constraints.specs.Agreement.{super_in}
 use Rattle.constraints.specs.Nodes.{place_limit, AllNumbered, NodesOf, ClassesOf}
 use Rattle.constraints.specs.Choosing.{no_size, held, Holds, BestOf}
 use Rattle.constraints.specs.Linking.{Linked, Labelled, reason_in}
 use Rattle.constraints.proofs.Bridges.{best-reason}
 
 -- a count that is held to a limit is no more than it was
-pub at-most-low : (limit n : ℕ) → at_most limit n ≤ n
-unfolding at_most
-at-most-low limit n = go (leb n limit) refl
-  where
-    go : (t : Bool) → leb n limit ≡ t → elim t as (λ _. ℕ) [ true ↦ n | false ↦ limit ] ≤ n
-    go true e = omega arith
-    go false e = omega (arith, leb-false n limit e)
+pub at-most-low : (limit n : ℕ) → min n limit ≤ n
+at-most-low limit n = omega arith
 
 -- the size of no chain
 pub held_none : (best : List ℕ) → held best no_size ≡ none
@@ -46,7 +40,7 @@ reason_for supers counts cache ties subtypes n tied noted =
 -- where the numbers fit, the reason is that of the first rows
 reason-fits : (supers counts cache ties subtypes : List ℕ) → numbers_fit counts ≡ true
     → reason_in supers counts cache ties subtypes
-    ≡ reason_for supers counts cache ties subtypes (at_most cache_limit (get_or counts count_cache 0)) (at_most tie_limit (get_or counts count_ties 0)) (at_most subtype_limit (get_or counts count_subtypes 0))
+    ≡ reason_for supers counts cache ties subtypes (min (get_or counts count_cache 0) cache_limit) (min (get_or counts count_ties 0) tie_limit) (min (get_or counts count_subtypes 0) subtype_limit)
 unfolding reason_in
 reason-fits supers counts cache ties subtypes h = rw (h, reason_in)
 
@@ -54,8 +48,8 @@ module _ {cache ties subtypes numbers : List ℕ} {n tied noted : ℕ} (put : Al
     (is_node : NodesOf numbers (n + noted + noted + tied + tied) nodes) (is_class : ClassesOf cache nodes n classes) (counts froms tos labels : List ℕ)
     (linked : Linked nodes n noted tied froms tos) (labelled : Labelled counts noted tied labels) where
   -- the searches by ties, from none on, and then by all links, leave the reason
-  pub held-reason : (supers : List ℕ) → n ≡ at_most cache_limit (get_or counts count_cache 0) → tied ≡ at_most tie_limit (get_or counts count_ties 0)
-      → noted ≡ at_most subtype_limit (get_or counts count_subtypes 0) → numbers_fit counts ≡ true → (new : Option (List ℕ))
+  pub held-reason : (supers : List ℕ) → n ≡ min (get_or counts count_cache 0) cache_limit → tied ≡ min (get_or counts count_ties 0) tie_limit
+      → noted ≡ min (get_or counts count_subtypes 0) subtype_limit → numbers_fit counts ≡ true → (new : Option (List ℕ))
       → BestOf froms tos labels (tied + tied) (tied + tied + noted) classes n (super_in supers) new
       → new ≡ reason_in supers counts cache ties subtypes
   held-reason supers a b c fit new best =

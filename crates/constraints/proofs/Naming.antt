@@ -5,7 +5,7 @@ use mathlib.Core.Bool.{Bool, true, false, not, false≢true}
 use mathlib.Core.Option.{Option, none, some, none-ne-some, some-injective}
 use mathlib.Core.List.{List, ◌++◌}
 use mathlib.Core.Logic.{◌⊎◌, inl, inr}
-use Prim.Native.Nat.{ℕ, zero, suc, ◌+◌, ◌<◌}
+use Prim.Native.Nat.{min, ℕ, zero, suc, ◌+◌, ◌<◌, ◌≤◌}
 use native.Mathlib.Omega.{arith}
 use lib.ListN.{get_or}
 use lib.Dec.{ltb, eqb}
@@ -22,8 +22,9 @@ use Rattle.definition.specs.Checks.{breaks_over, agreed, breaking, OneOf, NamesO
 use Rattle.definition.specs.Tables.{entry_at, tie_at, subtype_at}
 use Rattle.laws.specs.Agreement.{find-row, agrees-alone}
 use Rattle.constraints.specs.Shared.{ends_of, shared_all, shared_edges}
-use Rattle.constraints.specs.Agreement.{at_most, entries_in, shared_in, led_in, new_of, new_in, told_of}
-use Rattle.constraints.specs.Pairs.{Found, NoPair, Pair, is_pair, pair_on, agree_on, Fresh, Finding, agree, apart}
+use Rattle.constraints.specs.Agreement.{entries_in, shared_in, led_in, new_of, new_in, told_of}
+use Rattle.std.specs.Prelude as P
+use Rattle.constraints.specs.Pairs.{Found, pair_on, agree_on, Fresh, Finding, agree, apart}
 use Rattle.constraints.proofs.Rows.{rows_in}
 use Rattle.constraints.proofs.Pairing.{pair-unfit}
 
@@ -113,23 +114,14 @@ module _ (sup : ℕ → Option ℕ) (cache : List ℕ) (n : ℕ) (ts es : List (
             absurd (fresh-requests new h (f h) c d k (rw (some-injective (request new) x is) o))
 
 -- the places of a pair
-
-abbrev one_of : Found → ℕ
-one_of NoPair = 0
-one_of (Pair a b) = a
-
-abbrev other_of : Found → ℕ
-other_of NoPair = 0
-other_of (Pair a b) = b
-
-pub pair_fits : {sup : ℕ → Option ℕ} {groups classes : List ℕ} {n noted new : ℕ} {r : Found} → Finding sup groups classes n noted new r → (a b : ℕ) → r ≡ Pair a b → (a < n) × (b < n)
-unfolding is_pair
-pair_fits (agree h) a b e = absurd (false≢true (ap is_pair e))
-pair_fits (apart c d f g h side) a b e = (rw (ap one_of e) at f, rw (ap other_of e) at g)
+pub pair_fits : {sup : ℕ → Option ℕ} {groups classes : List ℕ} {n noted new : ℕ} {r : Found} (limit : ℕ) → n ≤ limit → Finding sup groups classes n noted new r
+    → P.IfSome r (λ p. (p.from < limit) × (p.to < limit))
+pair_fits limit l (agree h) = tt
+pair_fits limit l (apart a b f g h side) = (omega arith, omega arith)
 
 -- the same, where the counts are given by their values
-pub names-counted : (sup : ℕ → Option ℕ) (cache ties beside subtypes : List ℕ) (n tied noted new entries tie_count subtype_count newcomer : ℕ) (r : Check) → n ≡ at_most 256 entries
-    → tied ≡ at_most 256 tie_count → noted ≡ at_most 256 subtype_count → new ≡ newcomer
+pub names-counted : (sup : ℕ → Option ℕ) (cache ties beside subtypes : List ℕ) (n tied noted new entries tie_count subtype_count newcomer : ℕ) (r : Check) → n ≡ min entries 256
+    → tied ≡ min tie_count 256 → noted ≡ min subtype_count 256 → new ≡ newcomer
     → NamesOver sup (rows (entry_at cache) n 0) (shared_edges (rows (tie_at ties) tied 0) (rows (λ i. get_or beside i 0) tied 0)) (shared_edges (rows (tie_at ties) tied 0) (rows (λ i. get_or beside i 0) tied 0) ++ subtype_edges (rows (subtype_at subtypes) noted 0))
     (new_of cache n new) r
     → NamesOver sup (entries_in cache entries) (shared_in ties beside tie_count) (led_in ties beside tie_count subtypes subtype_count) (new_in cache entries newcomer) r

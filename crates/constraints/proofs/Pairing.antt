@@ -6,8 +6,9 @@ use mathlib.Core.Bool.{Bool, true, false, false≢true}
 use mathlib.Core.Option.{Option}
 use mathlib.Core.List.{List, []}
 use mathlib.Core.Logic.{◌⊎◌, inl, inr}
-use Prim.Native.Nat.{ℕ, zero, suc, ◌+◌, ◌<◌, ◌≤◌}
+use Prim.Native.Nat.{ℕ, zero, suc, ◌+◌, ◌-◌, ◌<◌, ◌≤◌}
 use native.Mathlib.Omega.{arith}
+use native.Mathlib.Numerals.{add-one}
 use lib.ListN.{get_or}
 use lib.Dec.{eqb, ltb}
 use borrow.Author.Tests.{eqb-true, eqb-false, eq-eqb, ne_eqb, ltb-true, ltb-false}
@@ -21,8 +22,9 @@ use Rattle.laws.specs.Upward.{below_true, true_below, below-trans}
 use Rattle.constraints.specs.Groups.{Rooted}
 use Rattle.constraints.specs.Search.{start_of, links_of, leads_on, Led, Link, Marked}
 use Rattle.constraints.specs.Upward.{is_above}
-use Rattle.constraints.specs.Pairs.{Found, NoPair, Pair, is_pair, Meets, Followed, ToMeet, pair_is, pair_on, agree_on, out_marked, in_marked, PairFine, NextMet, Judged, fine, tied, out, into, Fresh, Finding, agree, apart}
-use Rattle.constraints.specs.Looking.{Span, request_at, lead_of, NextTurn, FirstTurn, Links, Tables, LookedFirst, LookedTies, LookedAhead, Looked}
+use Rattle.std.specs.Prelude as P
+use Rattle.constraints.specs.Pairs.{Found, pair, reach, Meets, Followed, ToMeet, pair_is, pair_on, agree_on, out_marked, in_marked, PairFine, NextMet, Judged, fine, tied, out, into, Fresh, Finding, agree, apart}
+use Rattle.constraints.specs.Looking.{Span, request_at, lead_of, NextTurn, FirstTurn, Links, Tables, LookedFirst, LookedTies, LookedAhead, Looked, PairIn, all_fine, breaks}
 use Rattle.constraints.proofs.Rows.{Order, less, equal, more, order, in_rows, rows_in}
 use Rattle.constraints.proofs.Searching.{led-holds}
 use Rattle.constraints.proofs.Looks.{tables_more}
@@ -88,20 +90,20 @@ module _ (sup : ℕ → Option ℕ) (groups classes outs ins aboves : List ℕ) 
   Verdict = Judged sup groups classes outs ins aboves stamp a b
 
   -- tied ones of one class
-  pub judged-same : get_or groups a 0 ≡ g → c ≡ d → Verdict NoPair
+  pub judged-same : get_or groups a 0 ≡ g → c ≡ d → Verdict P.None
   judged-same q e = fine (record { tied = λ _. e; out = λ n. absurd (n q); into = λ n. absurd (n q) })
 
   -- others, by the tests of their marks
   module _ (n : Apart) where
-    pub judged-out : out_marked outs aboves classes stamp g a b ≡ false → Verdict (Pair a b)
+    pub judged-out : out_marked outs aboves classes stamp g a b ≡ false → Verdict (pair a b)
     unfolding out_marked
     judged-out h = let r = failed-test outs stamp g (is_above aboves stamp c d) h in out n r.0 r.1
 
-    pub judged-into : in_marked sup ins classes stamp g a b ≡ false → Verdict (Pair b a)
+    pub judged-into : in_marked sup ins classes stamp g a b ≡ false → Verdict (pair b a)
     unfolding in_marked
     judged-into h = let r = failed-test ins stamp g (below sup d c) h in into n r.0 r.1
 
-    pub judged-both : out_marked outs aboves classes stamp g a b ≡ true → in_marked sup ins classes stamp g a b ≡ true → Verdict NoPair
+    pub judged-both : out_marked outs aboves classes stamp g a b ≡ true → in_marked sup ins classes stamp g a b ≡ true → Verdict P.None
     unfolding out_marked in_marked
     judged-both h k = fine (record {
       tied = λ q. absurd (n q);
@@ -110,8 +112,7 @@ module _ (sup : ℕ → Option ℕ) (groups classes outs ins aboves : List ℕ) 
     })
 
   -- none is found
-  pub judged-fine : {r : Found} → Verdict r → is_pair r ≡ false → PairFine sup groups classes outs ins aboves stamp a b
-  unfolding is_pair
+  pub judged-fine : {r : Found} → Verdict r → P.is_some r ≡ false → PairFine sup groups classes outs ins aboves stamp a b
   judged-fine (fine f) h = f
   judged-fine (tied q n) h = absurd (false≢true (sym h))
   judged-fine (out n m k) h = absurd (false≢true (sym h))
@@ -152,24 +153,56 @@ unmarked-on marks {stamp} {from} k m e before here p h l q = go (order p k)
     go (equal o) = here (rw o at q)
     go (more o) = omega arith
 
+-- what is found is the place that is said
+pub found-at : {b x from end : ℕ} → P.Some b ≡ P.Some x → from ≤ b → b < end → (from ≤ x) × (x < end)
+found-at {b} {x} e l h = let q : b ≡ x = cc in (omega arith, omega arith)
+
 -- no place that was passed is marked, and none from there on to the next
-pub met-after : {groups marks : List ℕ} {stamp from b r : ℕ} → from ≤ b → ((p : ℕ) → p < b → from ≤ p → Marked stamp marks p → ⊥)
-    → NextMet groups marks stamp Followed b r → NextMet groups marks stamp Followed from r
-met-after {groups} {marks} {stamp} {from} {b} {r} h before next = record { low = omega (arith, next.low); none = λ p l k m. go p l k m (ltb p b) refl }
+pub met-after : {groups marks : List ℕ} {stamp from b end : ℕ} {r : P.Option ℕ} → from ≤ b → ((p : ℕ) → p < b → from ≤ p → Marked stamp marks p → ⊥)
+    → NextMet groups marks stamp Followed b end r → NextMet groups marks stamp Followed from end r
+met-after {groups} {marks} {stamp} {from} {b} {end} {r} h before next = record {
+  fits = λ x e. (omega (arith, (next.fits x e).0), (next.fits x e).1);
+  none = λ p l k m. go p l k m (ltb p b) refl;
+}
   where
-    go : (p : ℕ) → p < r → from ≤ p → Marked stamp marks p → (t : Bool) → ltb p b ≡ t → ⊥
+    go : (p : ℕ) → p < reach end r → from ≤ p → Marked stamp marks p → (t : Bool) → ltb p b ≡ t → ⊥
     go p l k m true e = before p (ltb-true p b e) k m
     go p l k m false e = next.none p l (ltb-false p b e) m
 
 -- what was looked at is fine up to the next place that is to be looked at
-pub right-on : (P : ℕ → Type 0) {groups marks : List ℕ} {stamp from b r : ℕ} {who : Meets} → ((p : ℕ) → p < b → from ≤ p → ToMeet who groups marks stamp p → P p) → P b
-    → NextMet groups marks stamp who (b + 1) r → (p : ℕ) → p < r → from ≤ p → ToMeet who groups marks stamp p → P p
-right-on P {groups} {marks} {stamp} {from} {b} {r} {who} before here next p h l k = go (order p b)
+pub right-on : (F : ℕ → Type 0) {groups marks : List ℕ} {stamp from b end : ℕ} {r : P.Option ℕ} {who : Meets} → ((p : ℕ) → p < b → from ≤ p → ToMeet who groups marks stamp p → F p)
+    → F b → NextMet groups marks stamp who (b + 1) end r → (p : ℕ) → p < reach end r → from ≤ p → ToMeet who groups marks stamp p → F p
+right-on F {b = b} before here next p h l k = go (order p b)
   where
-    go : Order p b → P p
+    go : Order p b → F p
     go (less q) = before p q l k
     go (equal q) = rw q here
     go (more q) = absurd (next.none p h (omega arith) k)
+
+-- each next place that is to be looked at is a later one
+pub reach-falls : {groups marks : List ℕ} {stamp b end : ℕ} {who : Meets} {last r : P.Option ℕ} → last ≡ P.Some b → b < end → NextMet groups marks stamp who (b + 1) end r
+    → end - reach end r < end - reach end last
+reach-falls {b = b} {end} {r = r} e h next = rw e (omega (arith, later r refl))
+  where
+    later : (o : P.Option ℕ) → r ≡ o → b < reach end o
+    later P.None q = h
+    later (P.Some x) q = omega (arith, next.fits x q)
+
+-- what a turn's look has found
+
+module _ {sup : ℕ → Option ℕ} {groups classes outs ins aboves : List ℕ} {turn a : ℕ} {span : Span} where
+  pub pair-breaks : {b : ℕ} {r : Found} → b < span.end → Judged sup groups classes outs ins aboves (turn + 1) (lead_of turn groups a b) b r → P.is_some r ≡ true
+      → PairIn sup groups classes outs ins aboves turn a span r
+  pair-breaks {b} {r} h j q = go r j q
+    where
+      go : (o : Found) → Judged sup groups classes outs ins aboves (turn + 1) (lead_of turn groups a b) b o → P.is_some o ≡ true → PairIn sup groups classes outs ins aboves turn a span o
+      go P.None k e = absurd (false≢true e)
+      go (P.Some p) k e = breaks b h p k
+
+  pub fine-in : {r : Found} → PairIn sup groups classes outs ins aboves turn a span r → P.is_some r ≡ false
+      → (p : ℕ) → p < span.end → span.from ≤ p → ToMeet span.who groups outs (turn + 1) p → PairFine sup groups classes outs ins aboves (turn + 1) (lead_of turn groups a p) p
+  fine-in (all_fine f) q = f
+  fine-in (breaks b h p j) q = absurd (false≢true (sym q))
 
 module _ (sup : ℕ → Option ℕ) (falls : Falls sup) (groups classes : List ℕ) (n noted : ℕ) where
   abbrev class : ℕ → ℕ
@@ -259,8 +292,7 @@ module _ (sup : ℕ → Option ℕ) (falls : Falls sup) (groups classes : List �
 
       -- a pair of a and b that breaks agreement is found
       apart-turn : {new b : ℕ} {r : Found} → a < n → ((a ≡ new) ⊎ (new < n → Fresh sup groups classes n noted new)) → b < span.end
-          → Judged sup groups classes outs ins aboves (suc turn) a b r → is_pair r ≡ true → Finding sup groups classes n noted new r
-      unfolding is_pair
+          → Judged sup groups classes outs ins aboves (suc turn) a b r → P.is_some r ≡ true → Finding sup groups classes n noted new r
       apart-turn {new} {b} fits side h j p = by j p
         where
           low : b < n
@@ -274,7 +306,7 @@ module _ (sup : ℕ → Option ℕ) (falls : Falls sup) (groups classes : List �
           right (inl e) = inl (inr e)
           right (inr f) = inr f
 
-          by : {r : Found} → Judged sup groups classes outs ins aboves (suc turn) a b r → is_pair r ≡ true → Finding sup groups classes n noted new r
+          by : {r : Found} → Judged sup groups classes outs ins aboves (suc turn) a b r → P.is_some r ≡ true → Finding sup groups classes n noted new r
           by (fine f) q = absurd (false≢true q)
           by (tied e d) q = apart a b fits low (tied-false a b e d) (left side)
           by (out d m k) q = apart a b fits low (led-false a b d (looked.out_sound (group b) m) (sym (above-out b m) ∙ k)) (left side)
@@ -323,8 +355,7 @@ module _ (sup : ℕ → Option ℕ) (falls : Falls sup) (groups classes : List �
         go false e = (right m (rw s.end h) (rw s.from (omega arith)) (rw s.who (eqb-false (group m) m e))).tied (rooted.top m (omega arith))
 
     tied-apart : {new b : ℕ} {outs ins aboves : List ℕ} {stamp : ℕ} {r : Found} → (new < n → Fresh sup groups classes n noted new) → b < n
-        → Judged sup groups classes outs ins aboves stamp (group b) b r → is_pair r ≡ true → Finding sup groups classes n noted new r
-    unfolding is_pair
+        → Judged sup groups classes outs ins aboves stamp (group b) b r → P.is_some r ≡ true → Finding sup groups classes n noted new r
     tied-apart f h (fine k) q = absurd (false≢true q)
     tied-apart {b = b} f h (tied e d) q = apart (group b) b (omega (arith, rooted.low b (omega arith))) h (tied-false (group b) b e d) (inr f)
     tied-apart {b = b} f h (out d m k) q = absurd (d (rooted.top b (omega arith)))
@@ -420,11 +451,17 @@ module _ (sup : ℕ → Option ℕ) (falls : Falls sup) (groups classes : List �
 
       pub apart-any : {turn a b : ℕ} {outs ins queue aboves : List ℕ} {span : Span} {r : Found} → a ≡ request_at turn new → ((turn ≡ 1 → ⊥) → a < n)
           → (0 < turn → new < n → Fresh sup groups classes n noted new) → Looked sup groups classes n noted turn a outs ins queue aboves span → b < span.end
-          → Judged sup groups classes outs ins aboves (suc turn) (lead_of turn groups a b) b r → is_pair r ≡ true → Finding sup groups classes n noted new r
+          → Judged sup groups classes outs ins aboves (suc turn) (lead_of turn groups a b) b r → P.is_some r ≡ true → Finding sup groups classes n noted new r
       unfolding lead_of request_at
       apart-any {turn = zero} e fits f looked h j q = apart-turn looked (fits (λ z. omega arith)) (inl e) h j q
       apart-any {turn = suc zero} e fits f looked h j q = tied-apart (f (omega arith)) (omega (arith, looked.low)) j q
       apart-any {turn = suc (suc u)} e fits f looked h j q = apart-turn looked (fits (λ z. omega arith)) (inr (f (omega arith))) h j q
+
+      pub apart-in : {turn a : ℕ} {outs ins queue aboves : List ℕ} {span : Span} {r : Found} → a ≡ request_at turn new → ((turn ≡ 1 → ⊥) → a < n)
+          → (0 < turn → new < n → Fresh sup groups classes n noted new) → Looked sup groups classes n noted turn a outs ins queue aboves span
+          → PairIn sup groups classes outs ins aboves turn a span r → P.is_some r ≡ true → Finding sup groups classes n noted new r
+      apart-in e fits f looked (all_fine g) q = absurd (false≢true q)
+      apart-in {turn} e fits f looked (breaks b h p j) q = apart-any e fits f looked h (rw (add-one turn) at j) q
 
     -- All turns are over
     module _ (classed : (a : ℕ) → a < n → class (group a) ≡ class a) (all-passed : (a : ℕ) → a < n → Passed sup groups classes n noted a) where
@@ -488,7 +525,7 @@ module _ (sup : ℕ → Option ℕ) (falls : Falls sup) (groups classes : List �
           (λ a f. places-all (pair_on sup groups classes n noted a) n (λ b g. pair-agrees a b f g))
 
     pub tested-all : {new turn : ℕ} {outs ins queue aboves : List ℕ} → n + 1 < turn → Tested sup groups classes n noted new turn outs ins queue aboves
-        → Finding sup groups classes n noted new NoPair
+        → Finding sup groups classes n noted new P.None
     tested-all h t = agree (all-agree (t.tied (omega arith)) (λ a f. t.done a (omega arith) f))
 
 -- a pair that doesn't agree

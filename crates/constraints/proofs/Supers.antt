@@ -9,13 +9,15 @@ use native.Mathlib.Omega.{arith}
 use lib.ListN.{length, get_or, set}
 use lib.Dec.{eqb, ltb}
 use borrow.Author.Tests.{eqb-true, eq-eqb, ne_eqb, ltb-true, lt-ltb, le-ltb}
+use Rattle.std.specs.Prelude as P
 use Rattle.definition.specs.Classes.{lower}
 use Rattle.definition.specs.Superclasses.{Below, Falls, below, same, up}
 use Rattle.laws.specs.Upward.{below_true, true_below, below-trans}
 use Rattle.layout.specs.Tests.{same_test}
+use Rattle.cells.specs.Optional.{optional, optional-some}
 use Rattle.constraints.specs.Agreement.{super_in}
 use Rattle.constraints.specs.Search.{Marked, Stamped}
-use Rattle.constraints.specs.Upward.{class_of, Raised, is_above}
+use Rattle.constraints.specs.Upward.{Raised, is_above}
 use Rattle.constraints.proofs.Marking.{new-mark, set-mark, keep-mark, stamped-set, stamped-more}
 
 lower-falls : (c q p : ℕ) → lower c q ≡ some p → p < c
@@ -36,66 +38,76 @@ super-falls t c p h = go (get_or t c 0) h
 
 -- the class directly above, by its cell
 
-pub super-high : (t : List ℕ) (c u : ℕ) → u ≡ get_or t c 0 → c < u → super_in t c ≡ class_of 0
-unfolding super_in lower class_of
-super-high t c u e h =
+pub super-none : (t : List ℕ) (c u : ℕ) → u ≡ get_or t c 0 → (u ≡ 0) ⊎ ((u ≡ 0 → ⊥) × (c < u)) → super_in t c ≡ none
+unfolding super_in lower
+super-none t c u e (inl z) = rw (sym e ∙ z, super_in) refl
+super-none t c u e (inr l) =
+    let s : u ≡ suc (u - 1) = omega (arith, l.1) in
+    rw (sym e ∙ s, super_in) (rw (le-ltb (u - 1) c (omega (arith, l.1)), lower) refl)
+
+pub super-some : (t : List ℕ) (c u : ℕ) → u ≡ get_or t c 0 → (u ≡ 0 → ⊥) → u ≤ c → super_in t c ≡ some (u - 1)
+unfolding super_in lower
+super-some t c u e n l =
     let s : u ≡ suc (u - 1) = omega arith in
-    rw (sym e ∙ s, super_in) (rw (le-ltb (u - 1) c (omega arith), lower) refl)
+    rw (sym e ∙ s, super_in) (rw (lt-ltb (u - 1) c (omega arith), lower) refl)
 
-pub super-low : (t : List ℕ) (c u : ℕ) → u ≡ get_or t c 0 → u ≤ c → super_in t c ≡ class_of u
-unfolding super_in lower class_of
-super-low t c zero e h = rw (sym e, super_in) refl
-super-low t c (suc p) e h = rw (sym e, super_in) (rw (lt-ltb p c (omega arith), lower) refl)
+-- how far there is to go: nothing where there is no next class; the next one upward is lower
 
-class-some : (u p : ℕ) → class_of u ≡ some p → u ≡ suc p
-unfolding class_of
-class-some zero p e = absurd (none-ne-some p e)
-class-some (suc q) p e = ap suc (some-injective q p e)
+abbrev pub height : P.Option ℕ → ℕ
+height P.None = 0
+height (P.Some x) = suc x
 
-some-class : (u p : ℕ) → u ≡ suc p → class_of u ≡ some p
-unfolding class_of
-some-class u p e = rw (e, class_of) refl
+pub height-falls : (t : List ℕ) (x : ℕ) (last next : P.Option ℕ) → last ≡ P.Some x → next ≡ optional (super_in t x) → height next < height last
+height-falls t x last next l e = rw (l, e) (go (super_in t x) refl)
+  where
+    go : (o : Option ℕ) → super_in t x ≡ o → height (optional o) < suc x
+    go none q = omega arith
+    go (some p) q = omega (arith, super-falls t x p q)
 
 -- Marking: the class of `next` is the next to be marked
 
-pub record Raising (sup : ℕ → Option ℕ) (c stamp next : ℕ) (aboves : List ℕ) : Type 0 where
+pub record Raising (sup : ℕ → Option ℕ) (c stamp : ℕ) (next : P.Option ℕ) (aboves : List ℕ) : Type 0 where
   pub stamped : Stamped 256 stamp aboves
-  pub few : next < 256
-  pub here : (p : ℕ) → next ≡ suc p → Below sup c p
+  pub few : (p : ℕ) → next ≡ P.Some p → p < 256
+  pub here : (p : ℕ) → next ≡ P.Some p → Below sup c p
   pub sound : (d : ℕ) → Marked stamp aboves d → Below sup c d
-  pub all : (d : ℕ) → Below sup c d → ((d ≡ c) ⊎ Marked stamp aboves d) ⊎ ((p : ℕ) × (next ≡ suc p) × Below sup p d)
+  pub all : (d : ℕ) → Below sup c d → ((d ≡ c) ⊎ Marked stamp aboves d) ⊎ ((p : ℕ) × (next ≡ P.Some p) × Below sup p d)
 
 module _ (sup : ℕ → Option ℕ) (c stamp : ℕ) where
   -- what lies above a class is it or lies above the next
-  onward : {d x u : ℕ} → sup x ≡ class_of u → Below sup x d → (d ≡ x) ⊎ ((p : ℕ) × (u ≡ suc p) × Below sup p d)
+  onward : {d x : ℕ} {u : P.Option ℕ} → u ≡ optional (sup x) → Below sup x d → (d ≡ x) ⊎ ((p : ℕ) × (u ≡ P.Some p) × Below sup p d)
   onward e (same q) = inl (sym q)
-  onward {d} {x} {u} e (up {p} s b) = inr (p, class-some u p (sym e ∙ s), b)
+  onward {d} {x} {u} e (up {p} s b) = inr (p, e ∙ ap optional s, b)
 
-  pub raising-start : (u : ℕ) (aboves : List ℕ) → 0 < stamp → Stamped 256 (stamp - 1) aboves → sup c ≡ class_of u → u < 256 → Raising sup c stamp u aboves
+  -- the next class lies directly above
+  directly : {x p : ℕ} {u : P.Option ℕ} → u ≡ optional (sup x) → u ≡ P.Some p → Below sup x p
+  directly {x} {p} e q = up (optional-some (sup x) p (sym e ∙ q)) (same refl)
+
+  pub raising-start : (u : P.Option ℕ) (aboves : List ℕ) → 0 < stamp → Stamped 256 (stamp - 1) aboves → u ≡ optional (sup c) → ((p : ℕ) → u ≡ P.Some p → p < 256) → Raising sup c stamp u aboves
   raising-start u aboves h s e l = record {
     stamped = stamped-more (omega arith) s;
     few = l;
-    here = λ p q. up (e ∙ some-class u p q) (same refl);
+    here = λ p q. directly e q;
     sound = λ d m. absurd (omega (arith, s.most d));
     all = λ d b. first d (onward e b);
   }
     where
-      first : (d : ℕ) → (d ≡ c) ⊎ ((p : ℕ) × (u ≡ suc p) × Below sup p d) → ((d ≡ c) ⊎ Marked stamp aboves d) ⊎ ((p : ℕ) × (u ≡ suc p) × Below sup p d)
+      first : (d : ℕ) → (d ≡ c) ⊎ ((p : ℕ) × (u ≡ P.Some p) × Below sup p d) → ((d ≡ c) ⊎ Marked stamp aboves d) ⊎ ((p : ℕ) × (u ≡ P.Some p) × Below sup p d)
       first d (inl q) = inl (inl q)
       first d (inr r) = inr r
 
-  pub raising-next : (x f u : ℕ) (aboves : List ℕ) → f ≡ suc x → Raising sup c stamp f aboves → sup x ≡ class_of u → u < 256
+  pub raising-next : (x : ℕ) (f u : P.Option ℕ) (aboves : List ℕ) → f ≡ P.Some x → Raising sup c stamp f aboves → u ≡ optional (sup x) → ((p : ℕ) → u ≡ P.Some p → p < 256)
       → Raising sup c stamp u (set aboves x stamp)
   raising-next x f u aboves i s e l = record {
     stamped = stamped-set stamp x aboves long s.stamped;
     few = l;
-    here = λ p q. below-trans (s.here x i) (up (e ∙ some-class u p q) (same refl));
+    here = λ p q. below-trans (s.here x i) (directly e q);
     sound = λ d m. old d (set-mark stamp x aboves long d m);
     all = λ d b. more d (s.all d b);
   }
     where
       long : x < length aboves
-      long = omega (arith, s.few, s.stamped.long)
+      long = omega (arith, s.few x i, s.stamped.long)
 
       old : (d : ℕ) → Marked stamp aboves d ⊎ (d ≡ x) → Below sup c d
       old d (inl m) = s.sound d m
@@ -104,23 +116,23 @@ module _ (sup : ℕ → Option ℕ) (c stamp : ℕ) where
       it : {d : ℕ} → d ≡ x → Marked stamp (set aboves x stamp) d
       it q = rw q (new-mark stamp x aboves long)
 
-      rest : (d : ℕ) → (d ≡ x) ⊎ ((p : ℕ) × (u ≡ suc p) × Below sup p d)
-          → ((d ≡ c) ⊎ Marked stamp (set aboves x stamp) d) ⊎ ((p : ℕ) × (u ≡ suc p) × Below sup p d)
+      rest : (d : ℕ) → (d ≡ x) ⊎ ((p : ℕ) × (u ≡ P.Some p) × Below sup p d)
+          → ((d ≡ c) ⊎ Marked stamp (set aboves x stamp) d) ⊎ ((p : ℕ) × (u ≡ P.Some p) × Below sup p d)
       rest d (inl q) = inl (inr (it q))
       rest d (inr r) = inr r
 
-      more : (d : ℕ) → ((d ≡ c) ⊎ Marked stamp aboves d) ⊎ ((p : ℕ) × (f ≡ suc p) × Below sup p d)
-          → ((d ≡ c) ⊎ Marked stamp (set aboves x stamp) d) ⊎ ((p : ℕ) × (u ≡ suc p) × Below sup p d)
+      more : (d : ℕ) → ((d ≡ c) ⊎ Marked stamp aboves d) ⊎ ((p : ℕ) × (f ≡ P.Some p) × Below sup p d)
+          → ((d ≡ c) ⊎ Marked stamp (set aboves x stamp) d) ⊎ ((p : ℕ) × (u ≡ P.Some p) × Below sup p d)
       more d (inl (inl q)) = inl (inl q)
       more d (inl (inr m)) = inl (inr (keep-mark stamp x aboves long d m))
-      more d (inr r) = let q : r.0 ≡ x = omega (arith, r.1, i) in rest d (onward e (rw q at r.2))
+      more d (inr r) = let q : r.0 ≡ x = cc (r.1, i) in rest d (onward e (rw q at r.2))
 
-  pub raised : (u : ℕ) (aboves : List ℕ) → u ≤ 0 → Raising sup c stamp u aboves → Raised sup c stamp aboves
+  pub raised : (u : P.Option ℕ) (aboves : List ℕ) → u ≡ P.None → Raising sup c stamp u aboves → Raised sup c stamp aboves
   raised u aboves h s = record { stamped = s.stamped; sound = s.sound; all = λ d b. go d (s.all d b) }
     where
-      go : (d : ℕ) → ((d ≡ c) ⊎ Marked stamp aboves d) ⊎ ((p : ℕ) × (u ≡ suc p) × Below sup p d) → (d ≡ c) ⊎ Marked stamp aboves d
+      go : (d : ℕ) → ((d ≡ c) ⊎ Marked stamp aboves d) ⊎ ((p : ℕ) × (u ≡ P.Some p) × Below sup p d) → (d ≡ c) ⊎ Marked stamp aboves d
       go d (inl r) = r
-      go d (inr r) = absurd (omega (arith, r.1))
+      go d (inr r) = cc (r.1, h)
 
 -- Reading the marks
 

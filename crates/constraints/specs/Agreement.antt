@@ -1,5 +1,5 @@
 -- What agreement is tested of: tables of rows, as many as a count says and at most 256, and direct superclasses by a table.
-use Rattle.std.specs.Prelude.{true, false, List, ◌++◌, ℕ, zero, suc, get_or, leb, ltb}
+use Rattle.std.specs.Prelude.{true, false, List, ◌++◌, ℕ, zero, suc, get_or, min, ltb}
 use Rattle.std.proofs.Math.Option.{Option, none, some}
 use Rattle.definition.specs.Numbers.{cache_limit, tie_limit, subtype_limit}
 use Rattle.definition.specs.Lists.{rows}
@@ -12,12 +12,8 @@ use Rattle.definition.specs.declared.Check.TheVariants.{Agreed}
 use Rattle.definition.specs.Checks.{breaking}
 use Rattle.definition.specs.Tables.{entry_at, tie_at, subtype_at}
 use Rattle.constraints.specs.Shared.{shared_edges}
-use Rattle.constraints.specs.declared.pairs.Found.{Found}
-use Rattle.constraints.specs.declared.pairs.Found.TheVariants.{NoPair, Pair}
-
--- a count, or the limit where it is more
-unfoldable pub at_most : ℕ → ℕ → ℕ
-at_most limit n = elim (leb n limit) [ true ↦ n | false ↦ limit ]
+use Rattle.std.specs.Prelude as P
+use Rattle.constraints.specs.Pairs.{Found}
 
 -- the direct superclass by a table of one cell a class: 0 none, else its number and one; its number is lower, or there is none
 unfoldable pub super_in : List ℕ → ℕ → Option ℕ
@@ -25,15 +21,15 @@ super_in t c = elim (get_or t c 0) [ zero ↦ none | suc p ↦ lower c p ]
 
 -- the first rows of the cache
 abbrev pub entries_in : List ℕ → ℕ → List Entry
-entries_in t n = rows (entry_at t) (at_most cache_limit n) 0
+entries_in t n = rows (entry_at t) (min n cache_limit) 0
 
 -- the edges between requests of the first ties that have one group beside them
 abbrev pub shared_in : List ℕ → List ℕ → ℕ → List (Edge Request)
-shared_in t g n = shared_edges (rows (tie_at t) (at_most tie_limit n) 0) (rows (λ i. get_or g i 0) (at_most tie_limit n) 0)
+shared_in t g n = shared_edges (rows (tie_at t) (min n tie_limit) 0) (rows (λ i. get_or g i 0) (min n tie_limit) 0)
 
 -- the edges of the first subtype constraints
 abbrev pub subtypes_in : List ℕ → ℕ → List (Edge Request)
-subtypes_in t n = subtype_edges (rows (subtype_at t) (at_most subtype_limit n) 0)
+subtypes_in t n = subtype_edges (rows (subtype_at t) (min n subtype_limit) 0)
 
 -- the edges of both
 abbrev pub led_in : List ℕ → List ℕ → ℕ → List ℕ → ℕ → List (Edge Request)
@@ -44,9 +40,9 @@ unfoldable pub new_of : List ℕ → ℕ → ℕ → Option Request
 new_of t n x = elim (ltb x n) [ true ↦ some (entry_at t x).request | false ↦ none ]
 
 abbrev pub new_in : List ℕ → ℕ → ℕ → Option Request
-new_in t n x = new_of t (at_most cache_limit n) x
+new_in t n x = new_of t (min n cache_limit) x
 
 -- what was found of two places of the cache, as their requests
 unfoldable pub told_of : List ℕ → Found → Check
-told_of t NoPair = Agreed
-told_of t (Pair a b) = breaking (entry_at t a).request (entry_at t b).request
+told_of t P.None = Agreed
+told_of t (P.Some p) = breaking (entry_at t p.from).request (entry_at t p.to).request

@@ -1,6 +1,6 @@
 -- Laws for callers: agreement of tables as agreement of a store's rows.
-use Rattle.std.specs.Prelude.{◌≡◌, refl, Bool, true, List, ◌++◌, ℕ, ◌≤◌, length, get_or}
-use Rattle.std.proofs.Common.{sym, subst, ◌∙◌, le-leb}
+use Rattle.std.specs.Prelude.{◌≡◌, refl, Bool, true, List, ◌++◌, ℕ, ◌≤◌, length, get_or, min}
+use Rattle.std.proofs.Common.{arith, sym, subst, ◌∙◌, le-leb}
 use Rattle.std.proofs.Math.Option.{Option, some}
 use Rattle.std.proofs.Math.ListN.{get_elem?}
 use Rattle.definition.specs.Lists.{rows, all}
@@ -17,12 +17,11 @@ use Rattle.layout.specs.Places.{rows-length}
 use Rattle.groups.specs.Lowest as lowest
 use Rattle.groups.specs.Laws.{there-row}
 use Rattle.constraints.specs.Shared.{shared_edges, SameChains, shared-tied, tied-shared, shared-led, led-shared, names-alike}
-use Rattle.constraints.specs.Agreement.{at_most, super_in, entries_in, shared_in, led_in}
+use Rattle.constraints.specs.Agreement.{super_in, entries_in, shared_in, led_in}
 
 -- a count within the limit
-pub within : (limit n : ℕ) → n ≤ limit → at_most limit n ≡ n
-unfolding at_most
-within limit n h = rw (le-leb n limit h, at_most) refl
+pub within : (limit n : ℕ) → n ≤ limit → min n limit ≡ n
+within limit n h = omega arith
 
 -- the groups beside the first ties are the definition's, by numbers of which none stands twice
 pub record Beside (ties groups : List ℕ) (tied : ℕ) : Type 0 where
@@ -33,8 +32,7 @@ pub record Beside (ties groups : List ℕ) (tied : ℕ) : Type 0 where
 
 -- so are those made of ties that lie between loaders
 pub beside-made : (ties old new : List ℕ) (n : ℕ) (r : Bool) → n ≤ 256 → n ≤ length old → all tie_fits (rows (tie_at ties) n 0) ≡ true
-    → lowest.RowGroups ties (lowest.at_most 256 n) old r new → Beside ties new n
-unfolding lowest.at_most
+    → lowest.RowGroups ties (min n 256) old r new → Beside ties new n
 beside-made ties old new n r few room fits made = record {
   numbers = rows (λ i. i) n 0;
   long = rows-length (λ i. i) n 0 ∙ sym (rows-length (tie_at ties) n 0);
@@ -43,7 +41,7 @@ beside-made ties old new n r few room fits made = record {
 }
   where
     g : lowest.RowGroups ties n old r new
-    g = subst (λ (k : ℕ). lowest.RowGroups ties k old r new) (rw (le-leb n 256 few, lowest.at_most) refl) made
+    g = subst (λ (k : ℕ). lowest.RowGroups ties k old r new) (within 256 n few) made
 
 -- the check of tables is that of the store, where the counts are within their limits, the table of superclasses has the store's, and the groups beside the ties are right
 pub names-store : (w : World) (supers cache ties groups subtypes : List ℕ) (n tied noted : ℕ) (new : Option Request) (r : Check)

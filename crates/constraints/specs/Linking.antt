@@ -1,5 +1,5 @@
 -- The links of a store's rows between nodes: each tie forth, then each tie back, then each subtype constraint from its lower name to its higher.
-use Rattle.std.specs.Prelude.{◌≡◌, true, false, List, ◌++◌, ℕ, ◌+◌, ◌<◌, get_or}
+use Rattle.std.specs.Prelude.{◌≡◌, true, false, List, ◌++◌, ℕ, ◌+◌, ◌<◌, get_or, min}
 use Rattle.std.proofs.Math.Option.{Option, none}
 use Rattle.definition.specs.Numbers.{tie_limit, subtype_limit, count_cache, count_ties, count_subtypes, tie_numbers_cell, subtype_numbers_cell}
 use Rattle.definition.specs.Lists.{rows}
@@ -7,7 +7,7 @@ use Rattle.definition.specs.Tables.{number_at, tie_at, subtype_at}
 use Rattle.definition.specs.Reasons.{Link, tie_links, subtype_links, reason_over}
 use Rattle.laws.specs.Earlier.{row_before}
 use Rattle.rows.specs.Numbers.{numbers_fit}
-use Rattle.constraints.specs.Agreement.{at_most, super_in, entries_in}
+use Rattle.constraints.specs.Agreement.{super_in, entries_in}
 
 -- the most links there are
 abbrev pub link_limit : ℕ
@@ -36,10 +36,10 @@ pub record Labelled (counts : List ℕ) (noted tied : ℕ) (labels : List ℕ) :
 -- The links of the first rows of the tables, with their numbers
 
 abbrev pub tie_links_in : List ℕ → List ℕ → List Link
-tie_links_in counts ties = let n = at_most tie_limit (get_or counts count_ties 0) in tie_links (rows (tie_at ties) n 0) (rows (number_at tie_numbers_cell counts) n 0)
+tie_links_in counts ties = let n = min (get_or counts count_ties 0) tie_limit in tie_links (rows (tie_at ties) n 0) (rows (number_at tie_numbers_cell counts) n 0)
 
 abbrev pub subtype_links_in : List ℕ → List ℕ → List Link
-subtype_links_in counts subtypes = let n = at_most subtype_limit (get_or counts count_subtypes 0) in subtype_links (rows (subtype_at subtypes) n 0) (rows (number_at subtype_numbers_cell counts) n 0)
+subtype_links_in counts subtypes = let n = min (get_or counts count_subtypes 0) subtype_limit in subtype_links (rows (subtype_at subtypes) n 0) (rows (number_at subtype_numbers_cell counts) n 0)
 
 -- why the store of these tables doesn't agree; none where it does, or where the rows' numbers aren't in turn
 unfoldable pub reason_in : List ℕ → List ℕ → List ℕ → List ℕ → List ℕ → Option (List ℕ)

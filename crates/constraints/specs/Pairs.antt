@@ -5,8 +5,8 @@ use Rattle.definition.specs.Lists.{rows, all}
 use Rattle.definition.specs.Superclasses.{below}
 use Rattle.constraints.specs.Search.{leads_on, Marked}
 use Rattle.constraints.specs.Upward.{is_above}
-pub use Rattle.constraints.specs.declared.pairs.Found.{Found}
-pub use Rattle.constraints.specs.declared.pairs.Found.TheVariants.{NoPair, Pair}
+use Rattle.std.specs.Prelude as P
+pub use Rattle.constraints.specs.declared.pairs.Pair.{Pair}
 pub use Rattle.constraints.specs.declared.pairs.Meets.{Meets}
 pub use Rattle.constraints.specs.declared.pairs.Meets.TheVariants.{Everyone, Members, Followed}
 
@@ -26,9 +26,12 @@ agree_on sup groups classes n noted = all (λ a. all (pair_on sup groups classes
 
 -- Pairs by marks
 
-unfoldable pub is_pair : Found → Bool
-is_pair NoPair = false
-is_pair (Pair a b) = true
+-- no pair, or one
+abbrev pub Found : Type 0
+Found = P.Option Pair
+
+abbrev pub pair : ℕ → ℕ → Found
+pair a b = P.Some (record { from = a; to = b })
 
 -- b, of a group, by the group's mark among those that a leads to, and by the marks of the classes above a's
 unfoldable pub out_marked : List ℕ → List ℕ → List ℕ → ℕ → ℕ → ℕ → ℕ → Bool
@@ -48,12 +51,12 @@ pub record PairFine (sup : ℕ → Option ℕ) (groups classes outs ins aboves :
 
 -- why none is found of a and b, or a pair: tied ones of two classes, or one that leads to the other and isn't its class or below
 pub data Judged (sup : ℕ → Option ℕ) (groups classes outs ins aboves : List ℕ) (stamp a b : ℕ) : Found → Type 0 where
-  fine : PairFine sup groups classes outs ins aboves stamp a b → Judged sup groups classes outs ins aboves stamp a b NoPair
-  tied : get_or groups a 0 ≡ get_or groups b 0 → (get_or classes a 0 ≡ get_or classes b 0 → ⊥) → Judged sup groups classes outs ins aboves stamp a b (Pair a b)
+  fine : PairFine sup groups classes outs ins aboves stamp a b → Judged sup groups classes outs ins aboves stamp a b P.None
+  tied : get_or groups a 0 ≡ get_or groups b 0 → (get_or classes a 0 ≡ get_or classes b 0 → ⊥) → Judged sup groups classes outs ins aboves stamp a b (pair a b)
   out : (get_or groups a 0 ≡ get_or groups b 0 → ⊥) → Marked stamp outs (get_or groups b 0) → is_above aboves stamp (get_or classes a 0) (get_or classes b 0) ≡ false
-      → Judged sup groups classes outs ins aboves stamp a b (Pair a b)
+      → Judged sup groups classes outs ins aboves stamp a b (pair a b)
   into : (get_or groups a 0 ≡ get_or groups b 0 → ⊥) → Marked stamp ins (get_or groups b 0) → below sup (get_or classes b 0) (get_or classes a 0) ≡ false
-      → Judged sup groups classes outs ins aboves stamp a b (Pair b a)
+      → Judged sup groups classes outs ins aboves stamp a b (pair b a)
 
 -- place p is to be looked at
 abbrev pub ToMeet : Meets → List ℕ → List ℕ → ℕ → ℕ → Type 0
@@ -61,10 +64,15 @@ ToMeet Everyone groups marks stamp p = Unit {0}
 ToMeet Members groups marks stamp p = get_or groups p 0 ≡ p → ⊥
 ToMeet Followed groups marks stamp p = Marked stamp marks p
 
--- r is not before `from`; between them no place is to be looked at
-pub record NextMet (groups marks : List ℕ) (stamp : ℕ) (who : Meets) (from r : ℕ) : Type 0 where
-  pub low : from ≤ r
-  pub none : (p : ℕ) → p < r → from ≤ p → ToMeet who groups marks stamp p → ⊥
+-- the place that was come to: one that is found, or else the end
+abbrev pub reach : ℕ → P.Option ℕ → ℕ
+reach end P.None = end
+reach end (P.Some b) = b
+
+-- what is found is a place from `from` on, before the end; before it no place is to be looked at
+pub record NextMet (groups marks : List ℕ) (stamp : ℕ) (who : Meets) (from end : ℕ) (r : P.Option ℕ) : Type 0 where
+  pub fits : (b : ℕ) → r ≡ P.Some b → (from ≤ b) × (b < end)
+  pub none : (p : ℕ) → p < reach end r → from ≤ p → ToMeet who groups marks stamp p → ⊥
 
 -- What is found of all pairs
 
@@ -74,6 +82,6 @@ Fresh sup groups classes n noted new = (b : ℕ) → b < n → (pair_on sup grou
 
 -- none, and all pairs agree; or one of two of n places that doesn't, and `new` is in it or in none that doesn't
 pub data Finding (sup : ℕ → Option ℕ) (groups classes : List ℕ) (n noted new : ℕ) : Found → Type 0 where
-  agree : agree_on sup groups classes n noted ≡ true → Finding sup groups classes n noted new NoPair
+  agree : agree_on sup groups classes n noted ≡ true → Finding sup groups classes n noted new P.None
   apart : (a b : ℕ) → a < n → b < n → pair_on sup groups classes n noted a b ≡ false
-      → ((a ≡ new) ⊎ (b ≡ new)) ⊎ (new < n → Fresh sup groups classes n noted new) → Finding sup groups classes n noted new (Pair a b)
+      → ((a ≡ new) ⊎ (b ≡ new)) ⊎ (new < n → Fresh sup groups classes n noted new) → Finding sup groups classes n noted new (pair a b)

@@ -1,15 +1,10 @@
 -- The classes above a class, as marks in a table of 256 cells: no class but the lowest has a number above 255, since superclasses are cells
 -- of 8 bits.
-use Rattle.std.specs.Prelude.{◌≡◌, Bool, true, false, List, ◌⊎◌, ℕ, zero, suc, eqb, get_or}
-use Rattle.std.proofs.Math.Option.{Option, none, some}
+use Rattle.std.specs.Prelude.{◌≡◌, Bool, true, false, List, ◌⊎◌, ℕ, eqb, get_or}
+use Rattle.std.proofs.Math.Option.{Option}
 use Rattle.definition.specs.Numbers.{byte_range}
 use Rattle.definition.specs.Superclasses.{Below}
 use Rattle.constraints.specs.Search.{Marked, Stamped}
-
--- a class by one more than its number; 0 is none
-unfoldable pub class_of : ℕ → Option ℕ
-class_of zero = none
-class_of (suc p) = some p
 
 -- the marks are the classes above c
 pub record Raised (sup : ℕ → Option ℕ) (c stamp : ℕ) (aboves : List ℕ) : Type 0 where

@@ -1,21 +1,50 @@
 // The test of agreement: a pair of requests that breaks it.
-ghost use Rattle.std.specs.Prelude.{◌≡◌, ℕ, ◌+◌, ◌<◌, ◌≤◌, length};
+ghost use Rattle.std.specs.Prelude.{◌≡◌, ◌+◌, ◌<◌, ◌≤◌, length, IfSome};
 ghost use Rattle.definition.specs.Numbers.{cache_limit, subtype_limit};
 ghost use Rattle.definition.specs.Checks.{NamesOver, agreed};
 ghost use Rattle.constraints.specs.Agreement.{super_in, entries_in, shared_in, led_in, new_in, told_of};
 ghost use Rattle.constraints.specs.Nodes.{place_limit};
 ghost use Rattle.constraints.specs.Groups.{Rooted};
 ghost use Rattle.constraints.specs.Looking.{Links, Tables};
-ghost use Rattle.constraints.specs.Pairs.{Pair, Finding};
+ghost use Rattle.constraints.specs.Pairs.{Followed, Finding};
+ghost use Rattle.constraints.specs.Looking.{PairIn};
 
 use crate::grouping::group_places;
 use crate::joining::join;
-use crate::looking::{beside, first_turn, look, next_turn, request_at};
+use crate::looking::{Span, beside, first_turn, look, next_turn, request_at};
 use crate::numbering::{PLACE_LIMIT, at_most, list_classes, number_nodes, number_places};
-use crate::pairs::{Found, is_pair, next_met, pair_at};
+use crate::pairs::{Pair, next_met, pair_at};
 use cells::at;
 use definition::Check;
 use definition::numbers::{BYTE_RANGE, CACHE_LIMIT, ROW_CELLS};
+
+// The first pair that breaks agreement of those looked at in a turn.
+fn pair_in(
+    supers: &[u8],
+    groups: &[u16],
+    classes: &[u16],
+    outs: &[u16],
+    ins: &[u16],
+    aboves: &[u16],
+    turn: usize,
+    a: usize,
+    span: Span,
+) -> Option<Pair>
+    requires { (turn ≤ cache_limit + 1) × (span.from ≤ place_limit) × (span.end ≤ place_limit) × (span.who ≡ Followed → span.end ≤ length outs.now) }
+    ensures { PairIn (super_in supers.now) groups.now classes.now outs.now ins.now aboves.now turn a span result }
+{
+    let stamp = (turn + 1) as u16;
+    let mut next = next_met(groups, outs, stamp, span.who, span.from, span.end);
+    while let Some(b) = next {
+        let lead = beside(turn, groups, a, b);
+        let pair = pair_at(supers, groups, classes, outs, ins, aboves, stamp, lead, b);
+        if pair.is_some() {
+            return pair;
+        }
+        next = next_met(groups, outs, stamp, span.who, b + 1, span.end);
+    }
+    None
+}
 
 // A pair of cached requests that breaks agreement, if there is one, and one with the newcomer if there is one of those. The newcomer is looked at first,
 // beside all that chains out of it and into it reach; then tied requests; then each other request in turn beside what it leads to. The first pair that breaks agreement ends
@@ -33,32 +62,23 @@ fn find_pair(
     ins: &mut [u16],
     queue: &mut [u16],
     aboves: &mut [u16],
-) -> Found
+) -> Option<Pair>
     requires { (cached ≤ cache_limit) × (noted ≤ subtype_limit) × Rooted groups.now (cached + noted + noted) × Links groups.now cached noted heads.now nexts.now × Tables noted 0 outs.old ins.old queue.old aboves.old }
     ensures { Finding (super_in supers.now) groups.now classes.now cached noted newcomer result }
 {
-    let mut found = Found::NoPair;
     let mut turn = first_turn(cached, newcomer);
-    'pairs: while turn <= cached + 1 {
+    while turn <= cached + 1 {
         let a = request_at(turn, newcomer);
-        let stamp = (turn + 1) as u16;
         let span = look(
             supers, groups, classes, cached, noted, heads, nexts, turn, a, outs, ins, queue, aboves,
         );
-        let who = span.who;
-        let mut b = next_met(groups, outs, stamp, who, span.from, span.end);
-        while b < span.end {
-            let lead = beside(turn, groups, a, b);
-            let pair = pair_at(supers, groups, classes, outs, ins, aboves, stamp, lead, b);
-            if is_pair(pair) {
-                found = pair;
-                break 'pairs;
-            }
-            b = next_met(groups, outs, stamp, who, b + 1, span.end);
+        let pair = pair_in(supers, groups, classes, outs, ins, aboves, turn, a, span);
+        if pair.is_some() {
+            return pair;
         }
         turn = next_turn(heads, cached, noted, turn);
     }
-    found
+    None
 }
 
 // The same, where the links aren't joined yet. Without subtype constraints there are none, and no tables for them. What the tables `nexts` and `queue` hold before
@@ -72,7 +92,7 @@ fn find_break(
     newcomer: usize,
     nexts: &mut [u16],
     queue: &mut [u16],
-) -> Found
+) -> Option<Pair>
     requires { (cached ≤ cache_limit) × (noted ≤ subtype_limit) × Rooted groups.now (cached + noted + noted) × (length nexts.old ≡ place_limit) × (length queue.old ≡ place_limit) }
     ensures { Finding (super_in supers.now) groups.now classes.now cached noted newcomer result }
 {
@@ -118,29 +138,28 @@ fn find_break(
 }
 
 // What was found of two places of the cache, as requests.
-fn tell(cache: &[u16], found: Found) -> Check
-    requires { (a b : ℕ) → found ≡ Pair a b → (a < cache_limit) × (b < cache_limit) }
+fn tell(cache: &[u16], found: Option<Pair>) -> Check
+    requires { IfSome found (λ p. (p.from < cache_limit) × (p.to < cache_limit)) }
     ensures { result ≡ told_of cache.now found }
 {
-    match found {
-        Found::NoPair => Check::Agreed,
-        Found::Pair(a, b) => Check::Breaking(
-            at(cache, a * ROW_CELLS),
-            at(cache, a * ROW_CELLS + 1),
-            at(cache, b * ROW_CELLS),
-            at(cache, b * ROW_CELLS + 1),
-        ),
-    }
+    let Some(pair) = found else {
+        return Check::Agreed;
+    };
+    let one = pair.from * ROW_CELLS;
+    let two = pair.to * ROW_CELLS;
+    Check::Breaking(
+        at(cache, one),
+        at(cache, one + 1),
+        at(cache, two),
+        at(cache, two + 1),
+    )
 }
 
 // No pair was named.
 pub fn agreed(check: Check) -> bool
     ensures { result ≡ agreed check }
 {
-    match check {
-        Check::Agreed => true,
-        Check::Breaking(l, m, k, n) => false,
-    }
+    matches!(check, Check::Agreed)
 }
 
 // The check of agreement of the store of these tables: cached requests of one group mean one class, and where one leads to another, its class is the other's or

@@ -31,10 +31,9 @@ fn goes_before(
 ) -> bool
     ensures { result ≡ precedes row_before (trail tos.now labels.now ways.now k node) (rows (λ i. get_or best.now i 0) k 0) }
 {
-    let mut at = node;
-    let mut i = 0;
-    while i < k {
-        let way = place(ways, at);
+    let mut here = node;
+    for i in 0..k {
+        let way = place(ways, here);
         let row = at(labels, way);
         let kept = at(best, i);
         if comes_first(row, kept) {
@@ -43,8 +42,7 @@ fn goes_before(
         if comes_first(kept, row) {
             return false;
         }
-        at = place(tos, way);
-        i += 1;
+        here = place(tos, way);
     }
     false
 }
@@ -54,13 +52,11 @@ fn write_trail(tos: &[u16], labels: &[u16], ways: &[u16], node: usize, k: usize,
     requires { (k ≤ place_limit) × (length best.old ≡ place_limit) }
     ensures { rows (λ i. get_or best.new i 0) k 0 ≡ trail tos.now labels.now ways.now k node }
 {
-    let mut at = node;
-    let mut i = 0;
-    while i < k {
-        let way = place(ways, at);
+    let mut here = node;
+    for i in 0..k {
+        let way = place(ways, here);
         put(best, i, at(labels, way));
-        at = place(tos, way);
-        i += 1;
+        here = place(tos, way);
     }
 }
 
@@ -85,10 +81,8 @@ fn consider(
     if size < k {
         return size;
     }
-    if size == k {
-        if !goes_before(tos, labels, ways, node, usize::from(k), best) {
-            return size;
-        }
+    if size == k && !goes_before(tos, labels, ways, node, usize::from(k), best) {
+        return size;
     }
     write_trail(tos, labels, ways, node, usize::from(k), best);
     k
@@ -110,12 +104,10 @@ fn consider_all(
     ensures { Holds best.new result × (held best.new result ≡ considered_all tos.now labels.now dists.now ways.now classes.now c cached 0 (held best.old size)) }
 {
     let mut kept = size;
-    let mut q = 0;
-    while q < cached {
+    for q in 0..cached {
         if at(classes, q) == c {
             kept = consider(tos, labels, dists, ways, q, best, kept);
         }
-        q += 1;
     }
     kept
 }
@@ -183,8 +175,7 @@ pub(crate) fn search_all(
     let mut aboves = [0u16; BYTE_RANGE as usize];
     let mut met = [0u16; BYTE_RANGE as usize];
     let mut kept = size;
-    let mut p = 0;
-    while p < cached {
+    for p in 0..cached {
         let class = at(classes, p);
         if !was_met(&mut met, usize::from(class)) {
             let stamp = (p + 1) as u16;
@@ -194,7 +185,6 @@ pub(crate) fn search_all(
                 class, best, kept,
             );
         }
-        p += 1;
     }
     kept
 }

@@ -14,10 +14,8 @@ fn label_alone(n: usize, labels: &mut [u32])
     requires { (n ≤ place_limit) × (length labels.old ≡ place_limit) }
     ensures { (p : ℕ) → p < n → get_or labels.new p 0 ≡ p }
 {
-    let mut p = 0;
-    while p < n {
+    for p in 0..n {
         labels[p] = p as u32;
-        p += 1;
     }
 }
 
@@ -26,9 +24,7 @@ fn label_nodes(nodes: &[u16], ones: usize, tied: usize, beside: &[u16], labels: 
     requires { (ones + tied + tied ≤ place_limit) × (length nodes.now ≡ place_limit) × (length labels.old ≡ place_limit) × ((p : ℕ) → p < ones + tied + tied → get_or nodes.now p 0 ≤ p) × ((p : ℕ) → p < ones → get_or labels.old p 0 ≡ p) }
     ensures { (x : ℕ) → x < ones → get_or labels.new x 0 ≡ label_in nodes.now ones tied beside.now x }
 {
-    let mut i = tied;
-    while 0 < i {
-        i -= 1;
+    for i in (0..tied).rev() {
         let label = LABELS + u32::from(at(beside, i));
         let one = usize::from(nodes[ones + i]);
         let two = usize::from(nodes[ones + tied + i]);
@@ -42,11 +38,9 @@ fn label_places(nodes: &[u16], n: usize, labels: &mut [u32])
     requires { (n ≤ place_limit) × (length nodes.now ≡ place_limit) × (length labels.old ≡ place_limit) × ((p : ℕ) → p < n → get_or nodes.now p 0 ≤ p) × ((p : ℕ) → p < n → get_or nodes.now (get_or nodes.now p 0) 0 ≡ get_or nodes.now p 0) }
     ensures { (p : ℕ) → p < n → get_or labels.new p 0 ≡ get_or labels.old (get_or nodes.now p 0) 0 }
 {
-    let mut p = 0;
-    while p < n {
+    for p in 0..n {
         let node = usize::from(nodes[p]);
         labels[p] = labels[node];
-        p += 1;
     }
 }
 

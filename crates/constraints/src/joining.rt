@@ -29,9 +29,7 @@ pub(crate) fn join(keys: &[u16], from: usize, n: usize, heads: &mut [u16], nexts
     requires { (from ≤ place_limit) × (n ≤ place_limit) × ((e : ℕ) → e < n → start_of keys.now from e < place_limit) × Joined (start_of keys.now from) 0 heads.old nexts.old }
     ensures { Joined (start_of keys.now from) n heads.new nexts.new }
 {
-    let mut e = 0;
-    while e < n {
+    for e in 0..n {
         enter(place(keys, from + e), e, heads, nexts);
-        e += 1;
     }
 }

@@ -84,13 +84,11 @@ fn next_layer(
     ensures { (es : List ℕ) × Those count (λ e. (i : ℕ) × (low ≤ i) × (i < high) × (get_or tos.now e 0 ≡ get_or queue.old i 0)) es × (found dists.new ways.new queue.new result ≡ looks froms.now labels.now layer es (found dists.old ways.old queue.old high)) }
 {
     let mut tail = high;
-    let mut i = low;
-    while i < high {
+    for i in low..high {
         let node = place(queue, i);
         tail = look_back(
             froms, tos, labels, count, heads, nexts, node, layer, dists, ways, queue, tail,
         );
-        i += 1;
     }
     tail
 }
@@ -143,13 +141,7 @@ pub(crate) fn spread(
 fn is_bad(aboves: &[u16], stamp: u16, only: bool, c: u16, class: u16) -> bool
     ensures { result ≡ bad_in only aboves.now stamp c class }
 {
-    if c == class {
-        return false;
-    }
-    if only {
-        return true;
-    }
-    at(aboves, usize::from(class)) != stamp
+    c != class && (only || at(aboves, usize::from(class)) != stamp)
 }
 
 // Cached request q is found, at distance 0, and queued, if its class is bad for class c. Answers how many are queued.
@@ -190,10 +182,8 @@ pub(crate) fn seed(
     ensures { (ways : List ℕ) → length ways ≡ place_limit → Seeded (ends_in only aboves.now stamp classes.now cached c) (found dists.new ways queue.new result) }
 {
     let mut tail = 0;
-    let mut q = 0;
-    while q < cached {
+    for q in 0..cached {
         tail = seed_one(classes, aboves, stamp, only, c, q, dists, queue, tail);
-        q += 1;
     }
     tail
 }

@@ -10,14 +10,12 @@ use definition::numbers::{SUBTYPE_LIMIT, SUBTYPE_NUMBERS_CELL, TIE_LIMIT, TIE_NU
 pub(crate) const LINK_LIMIT: usize = 2 * TIE_LIMIT as usize + SUBTYPE_LIMIT as usize;
 
 // Copies n cells of a table into another.
-fn copy_cells(source: &[u16], from: usize, n: usize, target: &mut [u16], at: usize)
-    requires { (from + n ≤ short_range) × (at + n ≤ length target.old) }
-    ensures { Copied source.now from n target.old target.new at }
+fn copy_cells(source: &[u16], from: usize, n: usize, target: &mut [u16], to: usize)
+    requires { (from + n ≤ short_range) × (to + n ≤ length target.old) }
+    ensures { Copied source.now from n target.old target.new to }
 {
-    let mut i = 0;
-    while i < n {
-        put(target, at + i, at(source, from + i));
-        i += 1;
+    for i in 0..n {
+        put(target, to + i, at(source, from + i));
     }
 }
 

@@ -41,10 +41,7 @@ pub(crate) fn request_at(turn: usize, newcomer: usize) -> usize
 pub(crate) fn beside(turn: usize, groups: &[u16], a: usize, b: usize) -> usize
     ensures { result ≡ lead_of turn groups.now a b }
 {
-    if turn == 1 {
-        return place(groups, b);
-    }
-    a
+    if turn == 1 { place(groups, b) } else { a }
 }
 
 // The next turn after one. A request at which no link starts is passed by: it leads nowhere, or where the first of its group leads.
@@ -58,12 +55,10 @@ pub(crate) fn next_turn(heads: &[u16], cached: usize, noted: usize, turn: usize)
     if noted == 0 {
         return cached + 2;
     }
-    let mut a = turn - 1;
-    while a < cached {
+    for a in turn - 1..cached {
         if at(heads, a) != 0 {
             return a + 2;
         }
-        a += 1;
     }
     cached + 2
 }
@@ -80,12 +75,10 @@ fn is_end(groups: &[u16], to: usize, noted: usize, group: usize) -> bool
     requires { to + noted ≤ place_limit }
     ensures { result ≡ false → (e : ℕ) → e < noted → start_of groups.now to e ≡ group → ⊥ }
 {
-    let mut e = 0;
-    while e < noted {
+    for e in 0..noted {
         if place(groups, to + e) == group {
             return true;
         }
-        e += 1;
     }
     false
 }
@@ -213,22 +206,12 @@ fn look_first(
     ensures { Looked (super_in supers.now) groups.now classes.now cached noted 0 a outs.new ins.new queue.new aboves.new result }
 {
     let group = place(groups, a);
-    if noted == 0 {
+    if noted == 0 || at(heads, group) == 0 && !is_end(groups, cached + noted, noted, group) {
         return Span {
             from: group,
             end: cached,
             who: Meets::Everyone,
         };
-    }
-    if at(heads, group) == 0 {
-        let highs = cached + noted;
-        if !is_end(groups, highs, noted, group) {
-            return Span {
-                from: group,
-                end: cached,
-                who: Meets::Everyone,
-            };
-        }
     }
     look_around(
         supers, groups, classes, cached, noted, heads, nexts, a, outs, ins, queue, aboves,
@@ -272,14 +255,7 @@ pub(crate) fn look(
             who: Meets::Members,
         };
     }
-    if noted == 0 {
-        return Span {
-            from: 0,
-            end: 0,
-            who: Meets::Everyone,
-        };
-    }
-    if place(groups, a) != a {
+    if noted == 0 || place(groups, a) != a {
         return Span {
             from: 0,
             end: 0,

@@ -1,17 +1,13 @@
 // The requests of a store as numbers, and as nodes.
-ghost use Rattle.std.specs.Prelude.{◌≡◌, ℕ, ◌+◌, ◌*◌, ◌<◌, ◌≤◌, length, get_or};
+ghost use Rattle.std.specs.Prelude.{◌≡◌, ℕ, ◌+◌, ◌*◌, ◌<◌, ◌≤◌, length, get_or, min};
 ghost use Rattle.definition.specs.Numbers.{cache_limit, row_cells, short_range, subtype_limit, tie_limit};
 ghost use Rattle.definition.specs.Requests.{at};
-ghost use Rattle.constraints.specs.Agreement.{at_most};
 ghost use Rattle.constraints.specs.Nodes.{request_of, request_in, Numbered, AllNumbered, First, NodesOf, ClassesOf, bucket_of, bucket_in, bucket_limit, place_limit};
 ghost use Rattle.constraints.specs.Joining.{Last};
 
 use crate::joining::enter;
 use cells::at;
 use definition::numbers::{CACHE_LIMIT, ROW_CELLS, SHORT_RANGE, SUBTYPE_LIMIT, TIE_LIMIT};
-
-// The largest count of rows of a table.
-pub(crate) const ROW_LIMIT: usize = CACHE_LIMIT as usize;
 
 // How many places there are at most: cached requests, two names of each subtype constraint, two loaders of each tie.
 pub(crate) const PLACE_LIMIT: usize = CACHE_LIMIT as usize
@@ -23,13 +19,9 @@ const BUCKET_LIMIT: u32 = 1024;
 
 // A count of rows, at most 256.
 pub(crate) fn at_most(count: u16) -> usize
-    ensures { (result ≡ at_most cache_limit count) × (result ≤ cache_limit) }
+    ensures { (result ≡ min count cache_limit) × (result ≤ cache_limit) }
 {
-    if count <= CACHE_LIMIT {
-        usize::from(count)
-    } else {
-        ROW_LIMIT
-    }
+    usize::from(count.min(CACHE_LIMIT))
 }
 
 // The number of a request.
@@ -63,10 +55,8 @@ fn number_rows(
     requires { (loader < 3) × (name < 3) × (count ≤ cache_limit) × (from + count ≤ length numbers.old) }
     ensures { Numbered t.now loader name count numbers.old numbers.new from }
 {
-    let mut i = 0;
-    while i < count {
+    for i in 0..count {
         numbers[from + i] = row_number(t, loader, name, i);
-        i += 1;
     }
 }
 
@@ -125,13 +115,11 @@ pub(crate) fn number_nodes(numbers: &[u32], n: usize, nodes: &mut [u16], nexts: 
     ensures { NodesOf numbers.now n nodes.new }
 {
     let mut heads = [0u16; PLACE_LIMIT];
-    let mut p = 0;
-    while p < n {
+    for p in 0..n {
         let key = bucket(numbers[p]);
         let node = node_of(numbers, nodes, nexts, usize::from(heads[key]), p);
         nodes[p] = node;
         enter(key, p, &mut heads, nexts);
-        p += 1;
     }
 }
 
@@ -148,9 +136,7 @@ pub(crate) fn list_classes(cache: &[u16], nodes: &[u16], cached: usize, classes:
     requires { (cached ≤ length nodes.now) × (cached ≤ length classes.old) × ((p : ℕ) → p < cached → get_or nodes.now p 0 < place_limit) }
     ensures { ClassesOf cache.now nodes.now cached classes.new }
 {
-    let mut p = 0;
-    while p < cached {
+    for p in 0..cached {
         classes[p] = class_at(cache, usize::from(nodes[p]));
-        p += 1;
     }
 }

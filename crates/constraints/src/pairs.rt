@@ -2,17 +2,17 @@
 ghost use Rattle.std.specs.Prelude.{◌≡◌, [], ◌≤◌, length};
 ghost use Rattle.constraints.specs.Agreement.{super_in};
 ghost use Rattle.constraints.specs.Nodes.{place_limit};
-ghost use Rattle.constraints.specs.Pairs.{out_marked, in_marked, Judged, is_pair, Members, Followed, NextMet};
+ghost use Rattle.constraints.specs.Pairs.{out_marked, in_marked, Judged, Members, Followed, NextMet};
 
 use crate::joining::place;
 use crate::upward::is_below;
 use cells::at;
 
-// What is found: no pair that breaks agreement, or one, from a place to another.
+// A pair of cached requests that breaks agreement, from a place to another.
 #[derive(Clone, Copy)]
-pub(crate) enum Found {
-    NoPair,
-    Pair(usize, usize),
+pub(crate) struct Pair {
+    pub from: usize,
+    pub to: usize,
 }
 
 // Who is looked at: every request, those that aren't the first of their group, or those that a search has marked.
@@ -21,16 +21,6 @@ pub(crate) enum Meets {
     Everyone,
     Members,
     Followed,
-}
-
-// It is a pair.
-pub(crate) fn is_pair(found: Found) -> bool
-    ensures { result ≡ is_pair found }
-{
-    match found {
-        Found::NoPair => false,
-        Found::Pair(a, b) => true,
-    }
 }
 
 // Request b, of that group, has a's class or one above it, if a leads to it: `outs` has the groups that a leads to, `aboves` the classes above a's.
@@ -49,10 +39,7 @@ fn out_agrees(
         return true;
     }
     let class = place(classes, b);
-    if place(classes, a) == class {
-        return true;
-    }
-    at(aboves, class) == stamp
+    place(classes, a) == class || at(aboves, class) == stamp
 }
 
 // Request b, of that group, has a's class or one below it, if it leads to a: `ins` has the groups that lead to a.
@@ -67,10 +54,7 @@ fn in_agrees(
 ) -> bool
     ensures { result ≡ in_marked (super_in supers.now) ins.now classes.now stamp group a b }
 {
-    if at(ins, group) != stamp {
-        return true;
-    }
-    is_below(supers, place(classes, b), place(classes, a))
+    at(ins, group) != stamp || is_below(supers, place(classes, b), place(classes, a))
 }
 
 // The pair of requests a and b, tied, or one of which leads to the other: whether it breaks agreement, and which way.
@@ -84,72 +68,68 @@ pub(crate) fn pair_at(
     stamp: u16,
     a: usize,
     b: usize,
-) -> Found
+) -> Option<Pair>
     ensures { Judged (super_in supers.now) groups.now classes.now outs.now ins.now aboves.now stamp a b result }
 {
     let group = place(groups, b);
     if place(groups, a) == group {
         if at(classes, a) == at(classes, b) {
-            return Found::NoPair;
+            return None;
         }
-        return Found::Pair(a, b);
+        return Some(Pair { from: a, to: b });
     }
     if !out_agrees(outs, aboves, classes, stamp, group, a, b) {
-        return Found::Pair(a, b);
+        return Some(Pair { from: a, to: b });
     }
     if !in_agrees(supers, ins, classes, stamp, group, a, b) {
-        return Found::Pair(b, a);
+        return Some(Pair { from: b, to: a });
     }
-    Found::NoPair
+    None
 }
 
 // The next request from a place on, before the end, that isn't the first of its group.
-fn next_member(groups: &[u16], from: usize, end: usize) -> usize
-    ensures { NextMet groups.now [] 0 Members from result }
+fn next_member(groups: &[u16], from: usize, end: usize) -> Option<usize>
+    ensures { NextMet groups.now [] 0 Members from end result }
 {
-    let mut b = from;
-    while b < end {
+    for b in from..end {
         if place(groups, b) != b {
-            return b;
+            return Some(b);
         }
-        b += 1;
     }
-    b
+    None
 }
 
 // The next request from a place on, before the end, that is marked, looked for one by one.
-fn next_single(marks: &[u16], stamp: u16, from: usize, end: usize) -> usize
+fn next_single(marks: &[u16], stamp: u16, from: usize, end: usize) -> Option<usize>
     requires { (end ≤ place_limit) × (end ≤ length marks.now) }
-    ensures { NextMet [] marks.now stamp Followed from result }
+    ensures { NextMet [] marks.now stamp Followed from end result }
 {
-    let mut b = from;
-    while b < end {
+    for b in from..end {
         if marks[b] == stamp {
-            return b;
+            return Some(b);
         }
-        b += 1;
     }
-    b
+    None
 }
 
 // The next request from a place on, before the end, that is marked. Four are looked at in a round, since long chains spend most of their time here.
-fn next_followed(marks: &[u16], stamp: u16, from: usize, end: usize) -> usize
+fn next_followed(marks: &[u16], stamp: u16, from: usize, end: usize) -> Option<usize>
     requires { (from ≤ place_limit) × (end ≤ place_limit) × (end ≤ length marks.now) }
-    ensures { NextMet [] marks.now stamp Followed from result }
+    ensures { NextMet [] marks.now stamp Followed from end result }
 {
     let mut b = from;
     while b + 3 < end {
         if marks[b] == stamp {
-            return b;
+            return Some(b);
         }
         if marks[b + 1] == stamp {
-            return b + 1;
+            return Some(b + 1);
         }
         if marks[b + 2] == stamp {
-            return b + 2;
+            return Some(b + 2);
         }
         if marks[b + 3] == stamp {
-            return b + 3;
+            return Some(b + 3);
         }
         b += 4;
     }
@@ -164,12 +144,12 @@ pub(crate) fn next_met(
     who: Meets,
     from: usize,
     end: usize,
-) -> usize
+) -> Option<usize>
     requires { (from ≤ place_limit) × (end ≤ place_limit) × (who ≡ Followed → end ≤ length marks.now) }
-    ensures { NextMet groups.now marks.now stamp who from result }
+    ensures { NextMet groups.now marks.now stamp who from end result }
 {
     match who {
-        Meets::Everyone => from,
+        Meets::Everyone => if from < end { Some(from) } else { None },
         Meets::Members => next_member(groups, from, end),
         Meets::Followed => next_followed(marks, stamp, from, end),
     }

@@ -103,9 +103,7 @@ fn write_list(best: &[u16], size: usize, list: &mut [u16])
     requires { size ≤ place_limit }
     ensures { list.new ≡ write_rows set (rows (λ i. get_or best.now i 0) size 0) 0 list.old }
 {
-    let mut i = size;
-    while 0 < i {
-        i -= 1;
+    for i in (0..size).rev() {
         put(list, i, at(best, i));
     }
 }

@@ -1,6 +1,5 @@
 // Rows that break agreement by themselves: no chain is shorter, and most clashes have one.
-ghost use Rattle.std.specs.Prelude.{◌≡◌, ◌<◌, ◌≤◌, length};
-ghost use Rattle.definition.specs.Numbers.{short_range};
+ghost use Rattle.std.specs.Prelude.{◌≡◌, ◌≤◌, length};
 ghost use Rattle.constraints.specs.Nodes.{place_limit};
 ghost use Rattle.constraints.specs.Agreement.{super_in};
 ghost use Rattle.constraints.specs.Walks.{bad_over};
@@ -13,16 +12,9 @@ use cells::{at, put};
 
 // Class d is bad for class c.
 fn is_bad_for(supers: &[u8], only: bool, c: usize, d: usize) -> bool
-    requires { c < short_range }
     ensures { result ≡ bad_over only (super_in supers.now) c d }
 {
-    if c == d {
-        return false;
-    }
-    if only {
-        return true;
-    }
-    !is_below(supers, c, d)
+    c != d && (only || !is_below(supers, c, d))
 }
 
 // Link e leads from a cached request to one whose class is bad for its own.
@@ -38,11 +30,8 @@ fn breaks_alone(
     ensures { result ≡ alone froms.now tos.now classes.now cached only (super_in supers.now) e }
 {
     let a = place(froms, e);
-    if cached <= a {
-        return false;
-    }
     let b = place(tos, e);
-    if cached <= b {
+    if cached <= a || cached <= b {
         return false;
     }
     is_bad_for(supers, only, place(classes, a), place(classes, b))
@@ -68,10 +57,8 @@ fn consider_alone(
         return size;
     }
     let label = at(labels, e);
-    if size == 1 {
-        if !comes_first(label, at(best, 0)) {
-            return size;
-        }
+    if size == 1 && !comes_first(label, at(best, 0)) {
+        return size;
     }
     put(best, 0, label);
     1
@@ -94,12 +81,10 @@ pub(crate) fn first_alone(
     ensures { OneSize result × Alone froms.now tos.now labels.now classes.now cached only (super_in supers.now) count count (held best.old size) (held best.new result) }
 {
     let mut kept = size;
-    let mut e = 0;
-    while e < count {
+    for e in 0..count {
         kept = consider_alone(
             supers, classes, cached, froms, tos, labels, only, e, best, kept,
         );
-        e += 1;
     }
     kept
 }

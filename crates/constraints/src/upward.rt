@@ -1,20 +1,26 @@
 // The classes above a class.
-ghost use Rattle.std.specs.Prelude.{◌≡◌, ◌-◌, ◌<◌, ◌≤◌, get_or};
+ghost use Rattle.std.specs.Prelude.{◌≡◌, ◌-◌, ◌<◌, get_or, IfSome};
+ghost use Rattle.cells.specs.Optional.{optional};
 ghost use Rattle.constraints.specs.Agreement.{super_in};
 ghost use Rattle.constraints.specs.Search.{Stamped};
-ghost use Rattle.constraints.specs.Upward.{class_of, Raised};
-ghost use Rattle.definition.specs.Numbers.{byte_range, short_range};
+ghost use Rattle.constraints.specs.Upward.{Raised};
+ghost use Rattle.definition.specs.Numbers.{byte_range};
 ghost use Rattle.definition.specs.Superclasses.{below};
 
 use crate::joining::place;
 use cells::{at, put};
 
-// One more than the number of the class directly above a class, 0 if there is none.
-pub(crate) fn above(supers: &[u8], class: usize) -> usize
-    ensures { (super_in supers.now class ≡ class_of result) × (result ≤ class) × (result < byte_range) }
+// The class directly above a class. No class but the lowest has a number above 255, since its cell is of 8 bits.
+fn above(supers: &[u8], class: usize) -> Option<usize>
+    ensures is { result ≡ optional (super_in supers.now class) }
+    ensures few { IfSome result (λ up. up < byte_range) }
 {
     let up = usize::from(at(supers, class));
-    if class < up { 0 } else { up }
+    if up == 0 || class < up {
+        None
+    } else {
+        Some(up - 1)
+    }
 }
 
 // Marks with the stamp the classes above that of request a.
@@ -23,8 +29,7 @@ pub(crate) fn mark_above(supers: &[u8], classes: &[u16], a: usize, stamp: u16, a
     ensures { Raised (super_in supers.now) (get_or classes.now a 0) stamp aboves.new }
 {
     let mut next = above(supers, place(classes, a));
-    while 0 < next {
-        let class = next - 1;
+    while let Some(class) = next {
         put(aboves, class, stamp);
         next = above(supers, class);
     }
@@ -32,12 +37,10 @@ pub(crate) fn mark_above(supers: &[u8], classes: &[u16], a: usize, stamp: u16, a
 
 // Class c is class d or below it.
 pub(crate) fn is_below(supers: &[u8], c: usize, d: usize) -> bool
-    requires { c < short_range }
     ensures { result ≡ below (super_in supers.now) c d }
 {
-    let mut next = c + 1;
-    while 0 < next {
-        let class = next - 1;
+    let mut next = Some(c);
+    while let Some(class) = next {
         if class == d {
             return true;
         }

@@ -13,7 +13,7 @@ use Rattle.definition.specs.Lists.{rows, all, same_list, write_rows}
 use Rattle.definition.specs.Tables.{tie_at, number_at, put_number}
 use Rattle.definition.specs.Broken.{tie_fits}
 use Rattle.laws.specs.Groups.{group-at}
-use Rattle.layout.specs.Places.{rows-length, rows-there, rows_step, rows_none, rows_start}
+use Rattle.layout.specs.Places.{rows-length, rows-there, rows_step, rows_none}
 use Rattle.layout.specs.NumberedRows.{numbers-before}
 use Rattle.groups.specs.Lowest.{up_to, ties_at, RowGroups}
 use Rattle.groups.specs.Laws.{there-row, groups_by}
@@ -22,9 +22,6 @@ use Rattle.groups.specs.Numbered.{root_numbers, ties_fit, groups_fit, regrouped}
 -- Two lists of rows compared
 
 module _ (f g : ℕ → ℕ) (n : ℕ) where
-  pub same_start : same_list (rows f (n - 0) 0) (rows g (n - 0) 0) ≡ same_list (rows f n 0) (rows g n 0)
-  same_start = rw (rows_start f n, rows_start g n) refl
-
   pub same-hit : (i : ℕ) → i < n → (f i ≡ g i → ⊥) → same_list (rows f (n - i) i) (rows g (n - i) i) ≡ false
   unfolding same_list
   same-hit i h e = rw (rows_step f n i h, rows_step g n i h, ne_eqb (f i) (g i) e, same_list) refl
@@ -53,9 +50,6 @@ module _ (counts roots : List ℕ) (n : ℕ) where
       let s : i + 1 ≡ suc i = omega arith in
       let w : v ≡ root_numbers counts roots i = q ∙ ap (λ (d : List ℕ). get_or d (tie_numbers_cell + get_or roots i 0) 0) e ∙ numbers-before groups_cell (rows (root_numbers counts roots) (n - (i + 1)) (i + 1)) (i + 1) counts (tie_numbers_cell + get_or roots i 0) (omega arith) in
       (λ j. set (e j) (groups_cell + i) (w j)) ∙ sym (rw (rows_step (root_numbers counts roots) n i h, ← s) refl)
-
-  pub write-end : wrote 0 ≡ write_rows (put_number groups_cell) (rows (root_numbers counts roots) n 0) 0 counts
-  write-end = rw (rows_start (root_numbers counts roots) n) refl
 
 -- What is tested and written, by what is said of rows
 

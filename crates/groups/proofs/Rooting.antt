@@ -114,9 +114,6 @@ root-tops (up h s) = absurd (omega (arith, root-low s))
 pub same-on : {ups : List ℕ} {p q r : ℕ} → SameRoot ups p q → SameRoot ups q r → SameRoot ups p r
 same-on a b = record { root = a.root; one = a.one; two = rw (root-one b.one a.two) at b.two }
 
-pub same_self : (ups : List ℕ) (p : ℕ) → SameRoot ups p p
-same_self ups p = let r = root-of ups p in record { root = r.0; one = r.1; two = r.1 }
-
 -- Two places united: what shared a root does, and now they do; what leads down from the higher root is new
 module _ {ups ups' : List ℕ} {p q : ℕ} (u : United ups p q ups') (fits_one : p < length ups) (fits_two : q < length ups) where
   pub ends : (u.low ≤ get_or ups u.low 0) × (u.high ≤ get_or ups u.high 0) × (u.high < length ups)

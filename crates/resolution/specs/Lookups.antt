@@ -34,6 +34,17 @@ abbrev pub selection : Option Selected → Rust.Option Selection
 selection none = Rust.None
 selection (some m) = Rust.Some (record { class = m.class; place = m.place })
 
+pub selection-at : (o : Option Selected) (m : Selection) → selection o ≡ Rust.Some m → o ≡ some (record { class = m.class; place = m.place })
+selection-at none m h = cc
+selection-at (some x) m h =
+    let p : x.class ≡ m.class = cc in
+    let q : x.place ≡ m.place = cc in
+    λ i. some (record { class = p i; place = q i })
+
+pub selection-absent : (o : Option Selected) → selection o ≡ Rust.None → o ≡ none
+selection-absent none h = refl
+selection-absent (some m) h = cc
+
 -- a class's direct superclass as a cell: 0 for none, else its number and 1
 unfoldable pub super_cell : Base → ℕ → ℕ
 super_cell b c = elim (super_of b c) [ none ↦ 0 | some p ↦ suc p ]

@@ -11,7 +11,7 @@ use Rattle.definition.specs.Lists.{any, is_some, rows}
 use Rattle.definition.specs.Requests.{at}
 use Rattle.definition.specs.Instructions.{pick}
 use Rattle.definition.specs.Classes.{Base, Class, slot_is, super_of, loader_of, own_slots, has_field, methods_of}
-use Rattle.definition.specs.Tables.{Tables, ClassRow, class_row_at, entry_at}
+use Rattle.definition.specs.Tables.{Tables, tables, ClassRow, class_row_at, entry_at}
 use Rattle.laws.specs.Stable.{loader-is}
 use Rattle.layout.specs.Places.{rows-length, rows_at, rows-past}
 use Rattle.classfile.specs.Lists.{any-index}
@@ -50,6 +50,14 @@ quick_base counts classes kept cache = record {
 -- what tables stand for
 abbrev pub base_of : Tabled.Base → Base
 base_of t = quick_base t.counts.now t.classes.now t.kept.now t.cache.now
+
+-- with the other four tables
+abbrev pub tables_over : Tabled.Base → List ℕ → List ℕ → List ℕ → List ℕ → Tables
+tables_over t ties subtypes objects frames = tables t.counts.now t.classes.now t.kept.now t.cache.now ties subtypes objects frames
+
+-- a predicate on those tables and more
+abbrev pub over : {A : Type 1} → (List ℕ → List ℕ → List ℕ → List ℕ → A) → Tabled.Base → A
+over f t = f t.counts.now t.classes.now t.kept.now t.cache.now
 
 abbrev pub quick_of : Tables → Base
 quick_of t = quick_base t.counts t.classes t.kept t.cache

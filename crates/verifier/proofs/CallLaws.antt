@@ -12,10 +12,11 @@ use Rattle.definition.specs.declared.Instruction.TheVariants.{Invokevirtual}
 use Rattle.definition.specs.Numbers.{argument_limit}
 use Rattle.definition.specs.Maybe.{◌>>=◌, need}
 use Rattle.definition.specs.Classes.{arguments_of, signature}
-use Rattle.definition.specs.Instructions.{short_at, shorts_at, list_signature_at, instruction_of, sized_as}
+use Rattle.definition.specs.Instructions.{short_at, shorts_at, list_signature_at, instruction_of}
 use Rattle.cells.specs.Listed.{list_at, list_read}
-use Rattle.verifier.specs.declared.decoding.Reading.TheVariants.{At, Unreadable}
-use Rattle.verifier.specs.Decoding.{call_at, reading_of}
+use Rattle.cells.specs.Optional.{optional}
+use Rattle.std.specs.Prelude.{Some, None}
+use Rattle.verifier.specs.Decoding.{call_at}
 
 -- The two forms
 
@@ -42,15 +43,15 @@ module _ (s : List ℕ) (i : ℕ) where
 
 -- What is read of one
 
-module _ (s : List ℕ) (i place count n : ℕ) where
+module _ (s : List ℕ) (i place count : ℕ) where
   -- more than four types can't be read
-  pub call-above : argument_limit < count → Unreadable ≡ reading_of (sized_as n (call_at s i place count))
-  unfolding call_at reading_of sized_as need ◌>>=◌
+  pub call-above : argument_limit < count → None ≡ optional (call_at s i place count)
+  unfolding call_at need ◌>>=◌
   call-above h = rw (lt-leb count argument_limit h)
 
   -- four at most are a list of arguments, and the result stands behind them
   pub call-read :
       count ≤ argument_limit → (k x w y : ℕ) (a : Arguments) → k ≡ short_at s i → x ≡ short_at s (i + 2) → a ≡ list_at s place count → w ≡ count →
-      y ≡ short_at s (place + 2 * w) → At (Invokevirtual k (signature x a y)) n ≡ reading_of (sized_as n (call_at s i place count))
-  unfolding call_at reading_of sized_as need ◌>>=◌
+      y ≡ short_at s (place + 2 * w) → Some (Invokevirtual k (signature x a y)) ≡ optional (call_at s i place count)
+  unfolding call_at need ◌>>=◌
   call-read h k x w y a p q r t u = rw (le-leb count argument_limit h, list_read s place count h, ← r, u, t, p, q)

@@ -16,11 +16,11 @@ use Rattle.definition.specs.File.{File, read_file, class_of}
 use Rattle.definition.specs.Verifier.{map_at, notes_of, unmapped}
 use Rattle.layout.specs.Tests.{All}
 use Rattle.layout.specs.Places.{rows_step, rows_none, rows_start, rows_all, rows-length}
-use Rattle.classfile.specs.declared.MethodFound.{MethodFound}
-use Rattle.classfile.specs.declared.MethodFound.TheVariants.{At, Absent}
-use Rattle.classfile.specs.Reading.{file_version, class_name, map_depth, type_at, map_of, map_place, map_numbered, map_count, maps_of, method_count, code_at, map_bytes, method_at, method_place, method_in, quick_methods, methods_from, method_found, numbered}
+use Rattle.classfile.specs.Reading.{file_version, class_name, map_depth, type_at, map_of, map_place, map_numbered, map_count, maps_of, method_count, code_at, map_bytes, method_at, method_place, method_in, quick_methods, methods_from, numbered_place}
 use Rattle.classfile.specs.Rules.{WholeMaps, Readable}
-use Rattle.classfile.specs.Searches.{numbered-in, method-at, method-absent}
+use Rattle.classfile.specs.Searches.{numbered-in}
+use Rattle.cells.specs.Optional.{optional}
+use Rattle.std.specs.Prelude as P
 use Rattle.classfile.specs.Laws.{file-readable, version-of, name_of, methods-of}
 use Rattle.rows.specs.Posting.{Noted, post_notes}
 use Rattle.verifier.specs.Lookups.{unmapped_in}
@@ -119,19 +119,16 @@ module _ (l : ℕ) (bs : List ℕ) (f : File) (e : read_file bs ≡ some f) wher
 
 -- Method j, found by its number
 
-module _ (bs : List ℕ) (j : ℕ) (h : j < method_count bs) (r : MethodFound) (e : r ≡ method_found bs (numbered (method_count bs) j)) where
-  found : method_found bs (some j) ≡ r
-  found = ap (method_found bs) (sym (numbered-in (method_count bs) j h)) ∙ sym e
+module _ (bs : List ℕ) (j : ℕ) (h : j < method_count bs) (r : P.Option ℕ) (e : r ≡ optional (numbered_place bs j)) where
+  found : r ≡ P.Some (method_place bs j)
+  found = e ∙ ap optional (numbered-in bs j h)
 
-  pub never-absent : r ≡ Absent → ⊥
-  never-absent q = let z : ◌≡◌ {A = Option ℕ} (some j) none = method-absent bs (some j) (found ∙ q) in let o : ◌≡◌ {A = ℕ} 0 1 = cc in omega arith
+  pub never-absent : r ≡ P.None → ⊥
+  never-absent q = cc (found, q)
 
-  pub found_at : (i p : ℕ) → r ≡ At i p → method_at bs p ≡ method_in bs j
+  pub found_at : (p : ℕ) → r ≡ P.Some p → method_at bs p ≡ method_in bs j
   unfolding method_in
-  found_at i p q =
-      let a = method-at bs (some j) i p (found ∙ q) in
-      let b : j ≡ i = cc a.0 in
-      ap (method_at bs) (a.1 ∙ ap (method_place bs) (sym b))
+  found_at p q = let a : p ≡ method_place bs j = cc (found, q) in ap (method_at bs) a
 
 pub trace-found :
     (bs : List ℕ) (j p version own : ℕ) (s : Signature) (code maps : List ℕ) → method_at bs p ≡ method_in bs j → version ≡ file_version bs → own ≡ class_name bs →

@@ -13,7 +13,7 @@ use Rattle.definition.specs.declared.Opcode.{Opcode}
 use Rattle.definition.specs.declared.Instruction.{Instruction}
 use Rattle.definition.specs.Instructions.{Decoded, opcode_of, inline_length, extend, instruction_of, sized_as, decode}
 use Rattle.verifier.specs.declared.decoding.Reading.{Reading}
-use Rattle.verifier.specs.declared.decoding.Reading.TheVariants.{At}
+use Rattle.std.specs.Prelude as P
 use Rattle.verifier.specs.Decoding.{reading_of, decoded_of}
 
 module _ (version : ℕ) (code : List ℕ) (p : ℕ) where
@@ -90,7 +90,7 @@ module _ (version : ℕ) (code : List ℕ) (p : ℕ) (d : Decoded) (e : decode v
       rw decode-size (l, omega arith)
 
 -- what decoding answers, read back
-pub decode_is : (m : Option Decoded) (r : Reading) → r ≡ reading_of m → m ≡ decoded_of r
+pub decode_is : (m : Option Decoded) (r : P.Option Reading) → r ≡ reading_of m → m ≡ decoded_of r
 unfolding reading_of decoded_of
 decode_is m r e = same m ∙ ap decoded_of (sym e)
   where
@@ -98,13 +98,13 @@ decode_is m r e = same m ∙ ap decoded_of (sym e)
     same none = refl
     same (some d) = refl
 
-module _ (version : ℕ) (code : List ℕ) (p : ℕ) (r : Reading) (e : r ≡ reading_of (decode version code p)) (i : Instruction) (n : ℕ) (h : r ≡ At i n) where
-  pub decode-at : decode version code p ≡ some (record { instruction = i; size = n })
+module _ (version : ℕ) (code : List ℕ) (p : ℕ) (r : P.Option Reading) (e : r ≡ reading_of (decode version code p)) (m : Reading) (h : r ≡ P.Some m) where
+  pub decode-at : decode version code p ≡ some (record { instruction = m.instruction; size = m.size })
   unfolding decoded_of
   decode-at = decode_is (decode version code p) r e ∙ rw h
 
-  pub at-within : p + n ≤ length code
-  at-within = (decode-within version code p (record { instruction = i; size = n }) decode-at).0
+  pub at-within : p + m.size ≤ length code
+  at-within = (decode-within version code p (record { instruction = m.instruction; size = m.size }) decode-at).0
 
 -- the sign of 16 bits
 module _ (n : ℕ) where

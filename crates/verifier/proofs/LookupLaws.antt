@@ -1,4 +1,10 @@
 -- The search for the map at a point, the table of the maps, and the tests for a map that is lacking.
+use Rattle.std.specs.Prelude as P
+use Rattle.cells.specs.Optional.{optional}
+use Rattle.definition.specs.declared.Instruction.{Instruction}
+use Rattle.definition.specs.declared.Instruction.TheVariants.{AconstNull, Sipush, Load, Store, Pop, Dup, Arithmetic, Getfield, Putfield, Invokevirtual, New, Return, Branch}
+use Rattle.definition.specs.declared.Kind.{Kind}
+use Rattle.definition.specs.declared.Condition.{Condition}
 use mathlib.Core.Path.{◌≡◌, refl, sym, ap, ◌∙◌}
 use mathlib.Core.Bool.{Bool, true, false, false≢true, not, ◌&&◌, ◌||◌}
 use mathlib.Core.Logic.{◌≢◌}
@@ -155,37 +161,6 @@ bare ms r m e = rw (← e) (go (eqb r 0))
     go true = refl
     go false = refl
 
--- a test, and then another, and the rest
-pub either_true : (a b c : Bool) → (a || b) ≡ true → (a || b || c) ≡ true
-either_true true b c h = refl
-either_true false true c h = refl
-either_true false false c h = absurd (false≢true h)
-
-pub either-false : (a b c : Bool) → (a || b) ≡ false → (a || b || c) ≡ c
-either-false true b c h = absurd (false≢true (sym h))
-either-false false true c h = absurd (false≢true (sym h))
-either-false false false c h = refl
-
--- The walk for a map that is lacking
-
-module _ (version : ℕ) (code : List ℕ) (maps : List Map) (result p : ℕ) (wants : Bool) where
-  pub unread : (k : ℕ) → 0 < k → decode version code p ≡ none → unmapped_from version code maps result k p wants ≡ false
-  unfolding unmapped_from
-  unread zero h e = absurd (omega arith)
-  unread (suc k) h e = rw (unmapped_from, e)
-
-  module _ (d : Decoded) (e : decode version code p ≡ some d) where
-    pub lacks : (k : ℕ) → 0 < k → lacking maps p wants d.instruction ≡ true → unmapped_from version code maps result k p wants ≡ true
-    unfolding unmapped_from lacking
-    lacks zero h l = absurd (omega arith)
-    lacks (suc k) h l = rw (unmapped_from, e) (either_true (wants && is_none (map_at maps p)) (any (λ q. is_none (map_at maps q)) (to_list (target d.instruction))) (unmapped_from version code maps result k (p + d.size) (not (goes_on d.instruction))) l)
-
-    pub lacks-not : (k : ℕ) → 0 < k → lacking maps p wants d.instruction ≡ false
-        → unmapped_from version code maps result k p wants ≡ unmapped_from version code maps result (k - 1) (p + d.size) (not (goes_on d.instruction))
-    unfolding unmapped_from lacking
-    lacks-not zero h l = absurd (omega arith)
-    lacks-not (suc k) h l = let n : suc k - 1 ≡ k = omega arith in rw (unmapped_from, e, n) (either-false (wants && is_none (map_at maps p)) (any (λ q. is_none (map_at maps q)) (to_list (target d.instruction))) (unmapped_from version code maps result k (p + d.size) (not (goes_on d.instruction))) l)
-
 pub any-one : {A : Type 0} (f : A → Bool) (a : A) (b : Bool) → b ≡ f a → b ≡ any f (a ∷ [])
 unfolding any
 any-one f a b e = e ∙ go (f a)
@@ -194,10 +169,39 @@ any-one f a b e = e ∙ go (f a)
     go true = refl
     go false = refl
 
-pub out-of-code : (version : ℕ) (code : List ℕ) (maps : List Map) (result k p : ℕ) (wants : Bool) → k ≤ 0 → unmapped_from version code maps result k p wants ≡ false
-unfolding unmapped_from
-out-of-code version code maps result zero p wants h = refl
-out-of-code version code maps result (suc k) p wants h = absurd (omega arith)
+-- An instruction that is neither a return nor a branch goes on, and one that is no branch has no target
+
+pub goes-else : (i : Instruction) → ((k : Kind) → i ≡ Return k → ⊥) → ((c : Condition) (p : ℕ) → i ≡ Branch c p → ⊥) → true ≡ goes_on i
+unfolding goes_on
+goes-else AconstNull f g = refl
+goes-else (Sipush n) f g = refl
+goes-else (Load k n) f g = refl
+goes-else (Store k n) f g = refl
+goes-else Pop f g = refl
+goes-else Dup f g = refl
+goes-else (Arithmetic o) f g = refl
+goes-else (Getfield a b n) f g = refl
+goes-else (Putfield a b n) f g = refl
+goes-else (Invokevirtual n s) f g = refl
+goes-else (New n) f g = refl
+goes-else (Return k) f g = absurd (f k refl)
+goes-else (Branch c p) f g = absurd (g c p refl)
+
+pub targets-else : (i : Instruction) → ((c : Condition) (p : ℕ) → i ≡ Branch c p → ⊥) → P.None ≡ optional (target i)
+unfolding target
+targets-else AconstNull g = refl
+targets-else (Sipush n) g = refl
+targets-else (Load k n) g = refl
+targets-else (Store k n) g = refl
+targets-else Pop g = refl
+targets-else Dup g = refl
+targets-else (Arithmetic o) g = refl
+targets-else (Getfield a b n) g = refl
+targets-else (Putfield a b n) g = refl
+targets-else (Invokevirtual n s) g = refl
+targets-else (New n) g = refl
+targets-else (Return k) g = refl
+targets-else (Branch c p) g = absurd (g c p refl)
 
 -- a method of a file, whose record begins at p
 pub unmapped-found :

@@ -1,6 +1,6 @@
 -- Where a check of a method fails, turn by turn, and the first method at which it does.
 use mathlib.Core.Path.{◌≡◌, refl, sym, ap, subst, ◌∙◌}
-use mathlib.Core.Bool.{Bool, true, false, not}
+use mathlib.Core.Bool.{Bool, true, false, not, ◌&&◌, ◌||◌}
 use mathlib.Core.Option.{Option, none, some}
 use mathlib.Core.List.{List}
 use Prim.Native.Nat.{ℕ, zero, suc, ◌+◌, ◌-◌, ◌<◌, ◌≤◌}
@@ -12,21 +12,22 @@ use borrow.Author.Tests.{le-leb, lt-leb}
 use Rattle.definition.specs.declared.Signature.{Signature}
 use Rattle.definition.specs.Instructions.{Decoded, decode, pick}
 use Rattle.definition.specs.Classes.{Map, Method}
-use Rattle.definition.specs.Verifier.{TypeState, maps_past, goes_on}
+use Rattle.definition.specs.Lists.{any, is_none, to_list}
+use Rattle.definition.specs.Verifier.{TypeState, map_at, maps_past, target, goes_on, unmapped_from}
+use Rattle.std.specs.Prelude as M
+use Rattle.cells.specs.Optional.{optional}
 use Rattle.layout.specs.Places.{rows_step, rows_none, rows_start}
 use Rattle.classfile.specs.Reading.{file_version, class_name, maps_of, code_at, map_bytes, method_at, method_in, method_count, methods_from, quick_methods}
 use Rattle.rows.specs.Posting.{Noted}
 use Rattle.verifier.specs.declared.places.Check.{Check}
 use Rattle.verifier.specs.declared.places.Check.TheVariants.{Types}
-use Rattle.verifier.specs.declared.turns.Step.{Step}
-use Rattle.verifier.specs.declared.turns.Step.TheVariants.{Stop, End, Next}
 use Rattle.verifier.specs.Lookups.{lacking}
 use Rattle.verifier.specs.Types.{entry_of}
 use Rattle.verifier.specs.Trace.{Onward, refused, accepted, onto, onward, Turned, into_turn, turned, Turning, turning, taking}
 use Rattle.verifier.specs.Answers.{next_of}
 use Rattle.definition.specs.Places.{lacks_from, lacks_at, place, first_place}
 use Rattle.verifier.specs.Stops.{stop_at_end, stopping, stops, whole_stop, check_point, check_in}
-use Rattle.verifier.proofs.WalkLaws.{Bound, into-bound}
+use Rattle.verifier.proofs.WalkLaws.{Bound, into-bound, to-start}
 
 -- where a turn goes, whatever is posted
 pub next-is : (l : ℕ) (t : Turned) (o : Onward) (j k : Noted) → turning o j ≡ taking l t k → t.next ≡ o
@@ -66,9 +67,9 @@ module _ (version : ℕ) (code : List ℕ) (maps : List Map) (result n p : ℕ) 
       unfolding onward
       stop-end q = went ∙ rw q refl
 
-      pub stop-next : (q : ℕ) (u : TypeState) → o ≡ onto q u → all ≡ stops version code maps result (n - 1) q more u
+      pub stop-next : (q : ℕ) (u : TypeState) (m : ℕ) → n ≡ suc m → o ≡ onto q u → all ≡ stops version code maps result m q more u
       unfolding onward
-      stop-next q u z = went ∙ rw z refl
+      stop-next q u m d z = let less : n - 1 ≡ m = omega arith in went ∙ rw (z, less) refl
 
 -- the code's end
 pub at-end : (n : ℕ) (more : List Map) (b : Bool) → leb (length more) 0 ≡ b → stop_at_end n more ≡ pick b none (some n)
@@ -77,32 +78,26 @@ at-end n more b e = rw e refl
 
 -- The flow from entry goes to point 0 or nowhere
 
-module _ (version own : ℕ) (g : Signature) (code : List ℕ) (maps : List Map) (s u : TypeState) (t : Step) (z : s ≡ entry_of own g)
-    (e : (into_turn (length code) maps 0 s).next ≡ next_of t u) where
-  goes : Bound 0 (next_of t u)
+module _ (version own : ℕ) (g : Signature) (code : List ℕ) (maps : List Map) (s : TypeState) (o : Onward) (z : s ≡ entry_of own g)
+    (e : (into_turn (length code) maps 0 s).next ≡ o) where
+  goes : Bound 0 o
   goes = subst (λ (x : Onward). Bound 0 x) e (into-bound (length code) maps 0 s)
 
   entered : check_point Types version own g code maps
-      ≡ onward (next_of t u) (some 0) (stop_at_end (length code) maps) (λ q x. stops version code maps g.result (length code) q maps x)
+      ≡ onward o (some 0) (stop_at_end (length code) maps) (λ q x. stops version code maps g.result (length code) q maps x)
   unfolding check_point whole_stop stopping
   entered =
       rw (← z)
       (ap (λ (x : Onward). onward x (some 0) (stop_at_end (length code) maps) (λ q y. stops version code maps g.result (length code) q maps y)) e)
 
-  pub entry-on : (q : ℕ) → t ≡ Next q → (r : Option ℕ) → r ≡ stops version code maps g.result (length code) 0 maps u → r ≡ check_point Types version own g code maps
-  unfolding onward next_of
-  entry-on q h r a = let o : q ≡ 0 = rw h at goes in a ∙ sym (entered ∙ rw (h, o) refl)
+  pub entry-on : (t : M.Option ℕ) (u : TypeState) → o ≡ next_of t u → (r : Option ℕ) → r ≡ stops version code maps g.result (length code) 0 maps u
+      → r ≡ check_point Types version own g code maps
+  unfolding onward
+  entry-on t u h r a = a ∙ sym (entered ∙ rw (h ∙ to-start t u (rw h at goes)) refl)
 
-  pub entry-stop : t ≡ Stop → some 0 ≡ check_point Types version own g code maps
-  unfolding onward next_of
+  pub entry-stop : o ≡ refused → some 0 ≡ check_point Types version own g code maps
+  unfolding onward
   entry-stop h = sym (entered ∙ rw h refl)
-
-  never : t ≡ End → ⊥
-  unfolding next_of
-  never h = rw h at goes
-
-  pub entry-end : t ≡ End → (r : Option ℕ) → r ≡ check_point Types version own g code maps
-  entry-end h r = absurd (never h)
 
 -- The test for a map that is lacking
 
@@ -123,11 +118,10 @@ module _ (version : ℕ) (code : List ℕ) (maps : List Map) (p : ℕ) (wants : 
     lack-here zero h l = absurd (omega arith)
     lack-here (suc k) h l = rw (lacks_from, e, l)
 
-    pub lack-on : (k : ℕ) → 0 < k → lacking maps p wants d.instruction ≡ false
-        → lacks_from version code maps k p wants ≡ lacks_from version code maps (k - 1) (p + d.size) (not (goes_on d.instruction))
+    pub lack-on : (k j : ℕ) → k ≡ suc j → lacking maps p wants d.instruction ≡ false
+        → lacks_from version code maps k p wants ≡ lacks_from version code maps j (p + d.size) (not (goes_on d.instruction))
     unfolding lacks_from lacking
-    lack-on zero h l = absurd (omega arith)
-    lack-on (suc k) h l = let n : suc k - 1 ≡ k = omega arith in rw (lacks_from, e, n, l)
+    lack-on k j h l = rw (h, lacks_from, e, l)
 
 module _ (version : ℕ) (code : List ℕ) (maps : List Map) where
   pub lack-early : version < 2 → lacks_at version code maps ≡ none
@@ -137,6 +131,40 @@ module _ (version : ℕ) (code : List ℕ) (maps : List Map) where
   pub lack-late : 2 ≤ version → lacks_at version code maps ≡ lacks_from version code maps (length code) 0 false
   unfolding lacks_at
   lack-late h = rw (lacks_at, le-leb 2 version h) refl
+
+  -- a map is lacking somewhere exactly where the code is unmapped
+  lacks-any : (given k p : ℕ) (wants : Bool) → M.is_some (optional (lacks_from version code maps k p wants)) ≡ unmapped_from version code maps given k p wants
+  unfolding lacks_from unmapped_from
+  lacks-any given zero p wants = refl
+  lacks-any given (suc k) p wants = go (decode version code p) (λ q w. lacks-any given k q w)
+    where
+      go : (d : Option Decoded) → ((q : ℕ) (w : Bool) → M.is_some (optional (lacks_from version code maps k q w)) ≡ unmapped_from version code maps given k q w)
+          → M.is_some (optional (elim d as (λ _. Option ℕ) [
+            | none ↦ none
+            | some i ↦ elim ((wants && is_none (map_at maps p)) || any (λ q. is_none (map_at maps q)) (to_list (target i.instruction))) as (λ _. Option ℕ) [
+              | true ↦ some p
+              | false ↦ lacks_from version code maps k (p + i.size) (not (goes_on i.instruction))
+            ]
+          ])) ≡ (elim d as (λ _. Bool) [
+            | none ↦ false
+            | some i ↦ (wants && is_none (map_at maps p)) || any (λ q. is_none (map_at maps q)) (to_list (target i.instruction)) || unmapped_from version code maps given k (p + i.size) (not (goes_on i.instruction))
+          ])
+      go none h = refl
+      go (some i) h = two (wants && is_none (map_at maps p)) (any (λ q. is_none (map_at maps q)) (to_list (target i.instruction))) _ _ (h (p + i.size) (not (goes_on i.instruction)))
+        where
+          two : (a b : Bool) (o : Option ℕ) (c : Bool) → M.is_some (optional o) ≡ c → M.is_some (optional (elim (a || b) as (λ _. Option ℕ) [ true ↦ some p | false ↦ o ])) ≡ (a || b || c)
+          two true b o c e = refl
+          two false true o c e = refl
+          two false false o c e = e
+
+  pub lacks-unmapped : (given : ℕ) → M.is_some (optional (lacks_at version code maps)) ≡ (leb 2 version && unmapped_from version code maps given (length code) 0 false)
+  unfolding lacks_at
+  lacks-unmapped given = go (leb 2 version)
+    where
+      go : (b : Bool) → M.is_some (optional (elim b as (λ _. Option ℕ) [ true ↦ lacks_from version code maps (length code) 0 false | false ↦ none ]))
+          ≡ (b && unmapped_from version code maps given (length code) 0 false)
+      go true = lacks-any given (length code) 0 false
+      go false = refl
 
 -- Method j, whose record begins at p
 pub check-found :

@@ -18,11 +18,9 @@ use Rattle.rows.specs.Laws.{post-append}
 use Rattle.verifier.specs.declared.types.Types.{Types}
 use Rattle.verifier.specs.declared.changes.Change.{Change}
 use Rattle.verifier.specs.Types.{types_of}
-use Rattle.verifier.specs.declared.lookups.Target.{Target}
-use Rattle.verifier.specs.declared.lookups.Target.TheVariants.{To}
-use Rattle.verifier.specs.Lookups.{map_there, target_of}
+use Rattle.std.specs.Prelude as P
+use Rattle.verifier.specs.Lookups.{map_there}
 use Rattle.verifier.specs.declared.decoding.Reading.{Reading}
-use Rattle.verifier.specs.declared.decoding.Reading.TheVariants.{At, Unreadable}
 use Rattle.verifier.specs.Decoding.{reading_of, decoded_of}
 use Rattle.verifier.specs.Effects.{Outcome, outcome, left_by, leaves}
 use Rattle.verifier.specs.Trace.{Trace, refusing, values_trace, fits, meet_trace, Onward, refused, accepted, onto, Turned, bound, once, target_trace, into_turn, start_turn, next_turn, flowing, turned_to, turned, turned_by, Verification, verification, posting, Turning, turning, taking}
@@ -54,8 +52,8 @@ module _ (ms : List ℕ) (n q r : ℕ) (e : map_there ms r ≡ map_at (maps_of m
     unfolding into_turn
     into-bare s = rw (none-there h, into_turn) refl
 
-    pub target-bare : (t : Target) (x : ℕ) (s : TypeState) → t ≡ To x → q ≡ x → target_trace n (maps_of ms) (target_of t) s ≡ refusing
-    unfolding target_trace target_of
+    pub target-bare : (t : Option ℕ) (x : ℕ) (s : TypeState) → t ≡ some x → q ≡ x → target_trace n (maps_of ms) t s ≡ refusing
+    unfolding target_trace
     target-bare t x s d f = rw (d, ← f, target_trace, none-there h) refl
 
     pub start-bare : q ≢ n → start_turn n (maps_of ms) q ≡ bound refused
@@ -67,8 +65,8 @@ module _ (ms : List ℕ) (n q r : ℕ) (e : map_there ms r ≡ map_at (maps_of m
     unfolding into_turn
     into-mapped s = rw (map-there h, into_turn) refl
 
-    pub target-mapped : (t : Target) (x : ℕ) (s : TypeState) → t ≡ To x → q ≡ x → target_trace n (maps_of ms) (target_of t) s ≡ meet_trace s (map_of ms r)
-    unfolding target_trace target_of
+    pub target-mapped : (t : Option ℕ) (x : ℕ) (s : TypeState) → t ≡ some x → q ≡ x → target_trace n (maps_of ms) t s ≡ meet_trace s (map_of ms r)
+    unfolding target_trace
     target-mapped t x s d f = rw (d, ← f, target_trace, map-there h) refl
 
     pub start-unfit : q ≢ n → fits (map_of ms r) ≡ false → start_turn n (maps_of ms) q ≡ bound refused
@@ -93,50 +91,46 @@ taken-stop l t k r e h = h ∙ taken-bound l t refused k e
 
 -- The flows of an instruction: into its target, then into the next point
 
-module _ (n : ℕ) (maps : List Map) (i : Instruction) (q : ℕ) (s : TypeState) (t : Target) (e : target_of t ≡ target i) where
-  pub flow-parts : flowing n maps i q s ≡ once (target_trace n maps (target_of t) s) (next_turn n maps (goes_on i) q s)
+module _ (n : ℕ) (maps : List Map) (i : Instruction) (q : ℕ) (s : TypeState) where
+  pub flow-parts : flowing n maps i q s ≡ once (target_trace n maps (target i) s) (next_turn n maps (goes_on i) q s)
   unfolding flowing
-  flow-parts = rw e refl
+  flow-parts = refl
 
-  pub flow-on : (b : Bool) → b ≡ goes_on i → b ≡ true → flowing n maps i q s ≡ once (target_trace n maps (target_of t) s) (into_turn n maps q s)
+  pub flow-on : (b : Bool) → b ≡ goes_on i → b ≡ true → flowing n maps i q s ≡ once (target_trace n maps (target i) s) (into_turn n maps q s)
   unfolding next_turn
   flow-on b g h = flow-parts ∙ rw (sym g ∙ h) refl
 
-  pub flow-ends : (b : Bool) → b ≡ goes_on i → b ≡ false → flowing n maps i q s ≡ once (target_trace n maps (target_of t) s) (start_turn n maps q)
+  pub flow-ends : (b : Bool) → b ≡ goes_on i → b ≡ false → flowing n maps i q s ≡ once (target_trace n maps (target i) s) (start_turn n maps q)
   unfolding next_turn
   flow-ends b g h = flow-parts ∙ rw (sym g ∙ h) refl
 
 -- What an instruction leaves: its own notes, then the flows
 
 module _ (n : ℕ) (maps : List Map) (i : Instruction) (q : ℕ) (c : Change) where
-  pub change-unfit : c.fits ≡ false → turned_to n maps i q (change_of c) ≡ bound refused
-  unfolding turned_to change_of pick
-  change-unfit e = rw e refl
-
   abbrev values : Trace
   values = values_trace c.types.operands c.place c.names
 
   -- the receiver's note is posted, then those of the values
-  pub change-fits : (l : ℕ) (k : Noted) → c.fits ≡ true → (a b : Noted) (y : Bool) → a ≡ post_notes l (made c.receiver) k → verification y b ≡ posting l values a
-      → (r : Turning) → r ≡ taking l (flowing n maps i q (types_of c.types)) b → r ≡ taking l (turned_to n maps i q (change_of c)) k
-  unfolding turned_to change_of pick posting
-  change-fits l k e a b y ea eb r h =
+  pub change-fits : (l : ℕ) (k a b : Noted) → a ≡ post_notes l (made c.receiver) k → b ≡ post_notes l values.notes a
+      → (r : Turning) → r ≡ taking l (flowing n maps i q (types_of c.types)) b → r ≡ taking l (turned_to n maps i q (change_of (P.Some c))) k
+  unfolding turned_to change_of posting
+  change-fits l k a b ea eb r h =
       let own : List Note = made c.receiver ++ values.notes in
       let rest : Turned = flowing n maps i q (types_of c.types) in
-      let both : post_notes l own k ≡ b = post-append l (made c.receiver) values.notes k ∙ (ap (post_notes l values.notes) (sym ea) ∙ sym (rows-say l values a b y eb)) in
-      rw e (h ∙ sym (taking-once-on l (record { notes = own; accepts = true }) k rest refl ∙ ap (taking l rest) both))
+      let both : post_notes l own k ≡ b = post-append l (made c.receiver) values.notes k ∙ (ap (post_notes l values.notes) (sym ea) ∙ sym eb) in
+      h ∙ sym (taking-once-on l (record { notes = own; accepts = true }) k rest refl ∙ ap (taking l rest) both)
 
 -- The whole turn, by what decoding answers
 
-module _ (version : ℕ) (code : List ℕ) (maps : List Map) (result p : ℕ) (s : TypeState) (r : Reading) (e : r ≡ reading_of (decode version code p)) where
-  pub turned_none : r ≡ Unreadable → turned version code maps result p s ≡ bound refused
+module _ (version : ℕ) (code : List ℕ) (maps : List Map) (result p : ℕ) (s : TypeState) (r : P.Option Reading) (e : r ≡ reading_of (decode version code p)) where
+  pub turned_none : r ≡ P.None → turned version code maps result p s ≡ bound refused
   unfolding turned turned_by decoded_of
   turned_none h = rw (decode_is (decode version code p) r e, h)
 
-  pub turned-at : (i : Instruction) (n : ℕ) → r ≡ At i n → (o : Outcome) → o ≡ outcome i result s → (f : Option Flow) → f ≡ left_by s o
-      → turned version code maps result p s ≡ turned_to (length code) maps i (p + n) f
+  pub turned-at : (m : Reading) → r ≡ P.Some m → (o : Outcome) → o ≡ outcome m.instruction result s → (f : Option Flow) → f ≡ left_by s o
+      → turned version code maps result p s ≡ turned_to (length code) maps m.instruction (p + m.size) f
   unfolding turned turned_by leaves
-  turned-at i n h o eo f ef = rw (decode-at version code p r e i n h, ef, eo) refl
+  turned-at m h o eo f ef = rw (decode-at version code p r e m h, ef, eo) refl
 
 pub taken-same : (l : ℕ) (t u : Turned) (k : Noted) (r : Turning) → u ≡ t → r ≡ taking l t k → r ≡ taking l u k
 taken-same l t u k r e h = rw e h

@@ -1,8 +1,8 @@
 -- What the answers of the walk's functions stand for.
 use Rattle.std.specs.Prelude.{◌≡◌, List, [], ◌∷◌, ◌++◌, ℕ, ◌+◌, ◌*◌, ◌<◌, ◌≤◌, set}
+use Rattle.std.specs.Prelude as P
 use Rattle.std.proofs.Math.Option.{Option, none, some}
 use Rattle.definition.specs.Lists.{stack}
-use Rattle.definition.specs.Instructions.{pick}
 use Rattle.definition.specs.Maybe.{◌>>=◌}
 use Rattle.definition.specs.declared.Arguments.{Arguments}
 use Rattle.definition.specs.Classes.{Map}
@@ -17,14 +17,14 @@ use Rattle.verifier.specs.declared.changes.Change.{Change}
 use Rattle.verifier.specs.declared.flows.Part.{Part}
 use Rattle.verifier.specs.declared.flows.Part.TheVariants.{Locals, Operands}
 use Rattle.verifier.specs.declared.quiet.Quiet.{Quiet}
-use Rattle.verifier.specs.declared.quiet.Quiet.TheVariants.{Loud, Keeps, Pushes, Sets}
-use Rattle.verifier.specs.declared.turns.Step.{Step}
-use Rattle.verifier.specs.declared.turns.Step.TheVariants.{Stop, End, Next}
-use Rattle.verifier.specs.declared.methods.Passed.{Passed}
-use Rattle.verifier.specs.declared.methods.Passed.TheVariants.{Inside, To}
+use Rattle.verifier.specs.declared.quiet.Quiet.TheVariants.{Keeps, Pushes, Sets}
+use Rattle.verifier.specs.declared.turns.Turn.{Turn}
+use Rattle.verifier.specs.declared.notes.Rejected.{Rejected as Rejection}
+use Rattle.rows.specs.Posting.{noted}
+use Rattle.verifier.specs.declared.methods.Ahead.{Ahead}
 use Rattle.verifier.specs.Types.{type_of, local_of, local_at, operand_at, locals_of, types_of}
 use Rattle.verifier.specs.Effects.{notes_in, Outcome, rejected, going, ending, left_by}
-use Rattle.verifier.specs.Trace.{values_trace, Onward, refused, accepted, onto, Turned, bound, left_from}
+use Rattle.verifier.specs.Trace.{values_trace, Onward, refused, accepted, onto, Turned, bound, Turning, turning, left_from}
 
 -- What an effect stands for
 
@@ -53,13 +53,19 @@ unfoldable pub made_flow : Types → ℕ → Meeting → Arguments → Option Fl
 made_flow s d a vs = notes_in a >>= λ x. some (record { types = types_of s; notes = x ++ (values_trace s.operands d vs).notes })
 
 -- what an instruction leaves, if it fits
-unfoldable pub change_of : Change → Option Flow
-change_of c = pick c.fits (some (record { types = types_of c.types; notes = made c.receiver ++ (values_trace c.types.operands c.place c.names).notes })) none
+unfoldable pub change_of : P.Option Change → Option Flow
+change_of P.None = none
+change_of (P.Some c) = some (record { types = types_of c.types; notes = made c.receiver ++ (values_trace c.types.operands c.place c.names).notes })
 
-unfoldable pub next_of : Step → TypeState → Onward
-next_of Stop s = refused
-next_of End s = accepted
-next_of (Next q) s = onto q s
+-- the point at which the walk goes on, none at the code's end
+unfoldable pub next_of : P.Option ℕ → TypeState → Onward
+next_of P.None s = accepted
+next_of (P.Some q) s = onto q s
+
+-- what a turn answers and leaves of the table of subtype constraints
+abbrev pub stepped : P.Result Turn Rejection → List ℕ → Turning
+stepped (P.Ok t) xs = turning (next_of t.next (types_of t.types)) (noted xs t.count)
+stepped (P.Err r) xs = turning refused (noted xs r.count)
 
 -- Turns without notes: the types that they leave
 
@@ -73,18 +79,18 @@ abbrev pub setting : Types → ℕ → ℕ → ℕ → Types
 setting s d i t = record { operands = s.operands; locals = set s.locals i t; depth = d }
 
 -- an effect leaves them, and the walk goes to point q
-unfoldable pub QuietBy : ℕ → Types → Effect → Quiet → Type 0
-QuietBy q s e Loud = Unit {0}
-QuietBy q s e (Keeps p d) = (p ≡ q) × (left_by (types_of s) (outcome_of s e) ≡ some (record { types = types_of (keeping s d); notes = [] }))
-QuietBy q s e (Pushes p d t) = (p ≡ q) × (d < 16) × (left_by (types_of s) (outcome_of s e) ≡ some (record { types = types_of (pushing s d t); notes = [] }))
-QuietBy q s e (Sets p d i t) = (p ≡ q) × (i < 8) × (left_by (types_of s) (outcome_of s e) ≡ some (record { types = types_of (setting s d i t); notes = [] }))
+unfoldable pub QuietBy : ℕ → Types → Effect → P.Option Quiet → Type 0
+QuietBy q s e P.None = Unit {0}
+QuietBy q s e (P.Some (Keeps p d)) = (p ≡ q) × (left_by (types_of s) (outcome_of s e) ≡ some (record { types = types_of (keeping s d); notes = [] }))
+QuietBy q s e (P.Some (Pushes p d t)) = (p ≡ q) × (d < 16) × (left_by (types_of s) (outcome_of s e) ≡ some (record { types = types_of (pushing s d t); notes = [] }))
+QuietBy q s e (P.Some (Sets p d i t)) = (p ≡ q) × (i < 8) × (left_by (types_of s) (outcome_of s e) ≡ some (record { types = types_of (setting s d i t); notes = [] }))
 
 -- a turn goes on with them
-unfoldable pub QuietTo : Turned → Types → Quiet → Type 0
-QuietTo u s Loud = Unit {0}
-QuietTo u s (Keeps q d) = u ≡ bound (onto q (types_of (keeping s d)))
-QuietTo u s (Pushes q d t) = (d < 16) × (u ≡ bound (onto q (types_of (pushing s d t))))
-QuietTo u s (Sets q d i t) = (i < 8) × (u ≡ bound (onto q (types_of (setting s d i t))))
+unfoldable pub QuietTo : Turned → Types → P.Option Quiet → Type 0
+QuietTo u s P.None = Unit {0}
+QuietTo u s (P.Some (Keeps q d)) = u ≡ bound (onto q (types_of (keeping s d)))
+QuietTo u s (P.Some (Pushes q d t)) = (d < 16) × (u ≡ bound (onto q (types_of (pushing s d t))))
+QuietTo u s (P.Some (Sets q d i t)) = (i < 8) × (u ≡ bound (onto q (types_of (setting s d i t))))
 
 -- place i of a part of the types against the map that begins at that place of the bytes
 unfoldable pub meet_at : List ℕ → ℕ → List ℕ → Part → ℕ → Option (List Note)
@@ -96,6 +102,6 @@ abbrev pub PlaceOf : List ℕ → ℕ → ℕ → Type 0
 PlaceOf ms j r = (r ≡ map_place ms j) × (r ≤ 1 + 529 * j)
 
 -- the maps left behind a point, from map j on, whose place is r
-unfoldable pub Passes : List ℕ → Passed → Option (List Map) → Type 0
-Passes ms Inside o = o ≡ none
-Passes ms (To j r) o = (o ≡ some (left_from ms j)) × PlaceOf ms j r
+unfoldable pub Passes : List ℕ → P.Option Ahead → Option (List Map) → Type 0
+Passes ms P.None o = o ≡ none
+Passes ms (P.Some a) o = (o ≡ some (left_from ms a.number)) × PlaceOf ms a.number a.place

@@ -1,4 +1,5 @@
 -- The answer of decoding: an instruction with its size, or nothing readable. A call is read by the place of its argument types and their count.
+use Rattle.std.specs.Prelude as P
 use Rattle.std.proofs.Math.Option.{Option, none, some}
 use Rattle.std.specs.Prelude.{List, ℕ, ◌+◌, ◌*◌, eqb, leb}
 use Rattle.definition.specs.declared.Condition.TheVariants.{Always, IfZero, IfLess}
@@ -12,7 +13,6 @@ use Rattle.definition.specs.Maybe.{◌>>=◌, need}
 use Rattle.definition.specs.Classes.{arguments_of, signature}
 use Rattle.definition.specs.Instructions.{pick, short_at, shorts_at, Decoded}
 use Rattle.verifier.specs.declared.decoding.Reading.{Reading}
-use Rattle.verifier.specs.declared.decoding.Reading.TheVariants.{At, Unreadable}
 
 -- imul, idiv and the branches, by their opcode bytes, from version 2 on
 unfoldable pub later_of : ℕ → ℕ → Opcode
@@ -28,11 +28,11 @@ call_at s i place n =
     need (leb n argument_limit) >>= λ _. arguments_of (shorts_at s place n) >>= λ a.
     some (Invokevirtual (short_at s i) (signature (short_at s (i + 2)) a (short_at s (place + 2 * n))))
 
-unfoldable pub reading_of : Option Decoded → Reading
-reading_of none = Unreadable
-reading_of (some d) = At d.instruction d.size
+unfoldable pub reading_of : Option Decoded → P.Option Reading
+reading_of none = P.None
+reading_of (some d) = P.Some (record { instruction = d.instruction; size = d.size })
 
 -- and back
-unfoldable pub decoded_of : Reading → Option Decoded
-decoded_of Unreadable = none
-decoded_of (At i n) = some (record { instruction = i; size = n })
+unfoldable pub decoded_of : P.Option Reading → Option Decoded
+decoded_of P.None = none
+decoded_of (P.Some r) = some (record { instruction = r.instruction; size = r.size })

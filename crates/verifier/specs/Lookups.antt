@@ -7,8 +7,6 @@ use Rattle.definition.specs.Lists.{any, is_none, to_list}
 use Rattle.definition.specs.Classes.{Map, Method}
 use Rattle.definition.specs.Verifier.{map_at, target, unmapped_from}
 use Rattle.classfile.specs.Reading.{map_of, maps_of}
-use Rattle.verifier.specs.declared.lookups.Target.{Target}
-use Rattle.verifier.specs.declared.lookups.Target.TheVariants.{To, Nowhere}
 
 -- the map that begins at that place; 0 stands for none
 unfoldable pub map_there : List ℕ → ℕ → Option Map
@@ -17,10 +15,6 @@ map_there ms r = pick (eqb r 0) none (some (map_of ms r))
 -- a table with the place of the map at each point that it reaches
 unfoldable pub Indexed : List ℕ → List ℕ → Type 0
 Indexed ms t = (q : ℕ) → q < length t → map_there ms (get_or t q 0) ≡ map_at (maps_of ms) q
-
-unfoldable pub target_of : Target → Option ℕ
-target_of Nowhere = none
-target_of (To q) = some q
 
 -- point p lacks a map that it wants, or the target does
 unfoldable pub lacking : List Map → ℕ → Bool → Instruction → Bool

@@ -1,4 +1,5 @@
 -- The point at which a check of a method fails, as the code finds it, and the first such method of a class file.
+use Rattle.std.specs.Prelude as P
 use Rattle.std.proofs.Math.Option.{Option, none, some}
 use Rattle.std.specs.Prelude.{List, ℕ, zero, suc, length, leb}
 use Rattle.definition.specs.Instructions.{pick}
@@ -7,21 +8,14 @@ use Rattle.definition.specs.Classes.{Map, Method}
 use Rattle.definition.specs.Verifier.{TypeState, maps_past}
 use Rattle.verifier.specs.declared.places.Check.{Check}
 use Rattle.verifier.specs.declared.places.Check.TheVariants.{Maps, Types}
-use Rattle.verifier.specs.declared.places.Point.{Point}
-use Rattle.verifier.specs.declared.places.Point.TheVariants.{At, Nowhere}
 use Rattle.verifier.specs.declared.places.Found.{Found}
-use Rattle.verifier.specs.declared.places.Found.TheVariants.{In, Absent}
 use Rattle.verifier.specs.Types.{entry_of}
 use Rattle.verifier.specs.Trace.{Turned, onward, into_turn, turned}
 use Rattle.definition.specs.Places.{lacks_at, Place, place}
 
-unfoldable pub point_of : Point → Option ℕ
-point_of Nowhere = none
-point_of (At p) = some p
-
-unfoldable pub place_of : Found → Option Place
-place_of Absent = none
-place_of (In j p) = some (place j p)
+unfoldable pub place_of : P.Option Found → Option Place
+place_of P.None = none
+place_of (P.Some f) = some (place f.method f.point)
 
 -- code of n bytes ends where all maps are behind
 unfoldable pub stop_at_end : ℕ → List Map → Option ℕ

@@ -1,7 +1,8 @@
 // Opcode bytes, and the instruction at a point of the code.
 ghost use Rattle.std.specs.Prelude.{◌≡◌, ◌+◌, ◌≤◌, length, get_or};
 ghost use Rattle.std.proofs.Math.Option.{some};
-ghost use Rattle.definition.specs.Instructions.{opcode_of, inline_length, short_at, extend, instruction_of, sized_as, decode};
+ghost use Rattle.definition.specs.Instructions.{opcode_of, inline_length, short_at, extend, instruction_of, decode};
+ghost use Rattle.cells.specs.Optional.{optional};
 ghost use Rattle.verifier.specs.Decoding.{later_of, call_at, reading_of};
 
 use cells::arguments::arguments_at;
@@ -9,11 +10,11 @@ use cells::short_at;
 use definition::numbers::{ARGUMENT_LIMIT, VERSION_THREE, VERSION_TWO};
 use definition::{Condition, Instruction, Kind, Opcode, Operator, Signature};
 
-// What stands at a point of the code: an instruction with its size in bytes, or nothing that can be read.
+// What is read at a point of the code: an instruction with its size in bytes.
 #[derive(Clone, Copy)]
-pub enum Reading {
-    At(Instruction, usize),
-    Unreadable,
+pub struct Reading {
+    pub instruction: Instruction,
+    pub size: usize,
 }
 
 // The opcodes that are there from version 2 on.
@@ -138,21 +139,21 @@ fn putfield_at(code: &[u8], i: usize) -> Instruction
     )
 }
 
-// A call of n bytes whose argument types, count many, begin at that place, behind two names that begin at place i; more than four types can't be read, as an
+// A call whose argument types, count many, begin at that place, behind two names that begin at place i; more than four types can't be read, as an
 // unknown opcode can't.
-fn call_at(code: &[u8], i: usize, place: usize, count: u8, n: usize) -> Reading
+fn call_at(code: &[u8], i: usize, place: usize, count: u8) -> Option<Instruction>
     requires { (i ≤ length code.now) × (place ≤ i + 5) }
-    ensures { result ≡ reading_of (sized_as n (call_at code.now i place count)) }
+    ensures { result ≡ optional (call_at code.now i place count) }
 {
     if ARGUMENT_LIMIT < count {
-        return Reading::Unreadable;
+        return None;
     }
     let s = Signature {
         name: short_at(code, i + 2),
         arguments: arguments_at(code, place, count),
         result: short_at(code, place + 2 * usize::from(count)),
     };
-    Reading::At(Instruction::Invokevirtual(short_at(code, i), s), n)
+    Some(Instruction::Invokevirtual(short_at(code, i), s))
 }
 
 // The point that a branch names: its offset counts from the start of the method's code, not from the branch.
@@ -163,41 +164,45 @@ fn target_at(code: &[u8], place: usize) -> u16
     short_at(code, place)
 }
 
-// The instruction of n bytes whose inline bytes begin at place i.
-fn instruction_of(code: &[u8], i: usize, o: Opcode, n: usize) -> Reading
+// The instruction whose inline bytes begin at place i.
+fn instruction_of(code: &[u8], i: usize, o: Opcode) -> Option<Instruction>
     requires { i ≤ length code.now }
-    ensures { result ≡ reading_of (sized_as n (instruction_of code.now i o)) }
+    ensures { result ≡ optional (instruction_of code.now i o) }
 {
     match o {
-        Opcode::OpAconstNull => Reading::At(Instruction::AconstNull, n),
-        Opcode::OpSipush => Reading::At(Instruction::Sipush(extended(short_at(code, i))), n),
-        Opcode::OpLoad(k) => Reading::At(Instruction::Load(k, cells::at(code, i)), n),
-        Opcode::OpStore(k) => Reading::At(Instruction::Store(k, cells::at(code, i)), n),
-        Opcode::OpPop => Reading::At(Instruction::Pop, n),
-        Opcode::OpDup => Reading::At(Instruction::Dup, n),
-        Opcode::OpArithmetic(a) => Reading::At(Instruction::Arithmetic(a), n),
-        Opcode::OpGetfield => Reading::At(getfield_at(code, i), n),
-        Opcode::OpPutfield => Reading::At(putfield_at(code, i), n),
-        Opcode::OpInvokevirtual => call_at(code, i, i + 4, 1, n),
-        Opcode::OpInvokevirtualList => call_at(code, i, i + 5, list_count(code, i), n),
-        Opcode::OpNew => Reading::At(Instruction::New(short_at(code, i)), n),
-        Opcode::OpReturn(k) => Reading::At(Instruction::Return(k), n),
-        Opcode::OpBranch(k) => Reading::At(Instruction::Branch(k, target_at(code, i)), n),
-        Opcode::OpUnknown => Reading::Unreadable,
+        Opcode::OpAconstNull => Some(Instruction::AconstNull),
+        Opcode::OpSipush => Some(Instruction::Sipush(extended(short_at(code, i)))),
+        Opcode::OpLoad(k) => Some(Instruction::Load(k, cells::at(code, i))),
+        Opcode::OpStore(k) => Some(Instruction::Store(k, cells::at(code, i))),
+        Opcode::OpPop => Some(Instruction::Pop),
+        Opcode::OpDup => Some(Instruction::Dup),
+        Opcode::OpArithmetic(a) => Some(Instruction::Arithmetic(a)),
+        Opcode::OpGetfield => Some(getfield_at(code, i)),
+        Opcode::OpPutfield => Some(putfield_at(code, i)),
+        Opcode::OpInvokevirtual => call_at(code, i, i + 4, 1),
+        Opcode::OpInvokevirtualList => call_at(code, i, i + 5, list_count(code, i)),
+        Opcode::OpNew => Some(Instruction::New(short_at(code, i))),
+        Opcode::OpReturn(k) => Some(Instruction::Return(k)),
+        Opcode::OpBranch(k) => Some(Instruction::Branch(k, target_at(code, i))),
+        Opcode::OpUnknown => None,
     }
 }
 
 // The instruction at point p of code of that version.
-pub fn decode(version: u8, code: &[u8], p: usize) -> Reading
+pub fn decode(version: u8, code: &[u8], p: usize) -> Option<Reading>
     ensures { result ≡ reading_of (decode version code.now p) }
 {
     if code.len() <= p {
-        return Reading::Unreadable;
+        return None;
     }
     let o = opcode_of(version, cells::at(code, p));
     let n = inline_length(code, p + 1, o);
     if code.len() - p <= n {
-        return Reading::Unreadable;
+        return None;
     }
-    instruction_of(code, p + 1, o, n + 1)
+    let instruction = instruction_of(code, p + 1, o)?;
+    Some(Reading {
+        instruction,
+        size: n + 1,
+    })
 }

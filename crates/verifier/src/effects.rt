@@ -108,13 +108,10 @@ pub(crate) fn meet_value(types: Types, d: usize, names: Arguments, i: u8) -> Mee
 fn are_met(types: Types, d: usize, names: Arguments) -> bool
     ensures { result ≡ (values_trace types.operands d names).accepts }
 {
-    let n = argument_count(names);
-    let mut i: u8 = 0;
-    while i < n {
+    for i in 0..argument_count(names) {
         if !met(meet_value(types, d, names, i)) {
             return false;
         }
-        i += 1;
     }
     true
 }

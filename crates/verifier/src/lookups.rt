@@ -4,17 +4,11 @@ ghost use Rattle.definition.specs.Instructions.{pick};
 ghost use Rattle.definition.specs.Lists.{is_none, any, to_list};
 ghost use Rattle.definition.specs.Verifier.{map_at, target, goes_on};
 ghost use Rattle.classfile.specs.Reading.{maps_of};
-ghost use Rattle.verifier.specs.Lookups.{map_there, Indexed, target_of, lacking};
+ghost use Rattle.verifier.specs.Lookups.{map_there, Indexed, lacking};
+ghost use Rattle.cells.specs.Optional.{optional};
 
 use definition::numbers::CODE_LIMIT;
 use definition::{Condition, Instruction};
-
-// The point that a branch goes to.
-#[derive(Clone, Copy)]
-pub enum Target {
-    To(u16),
-    Nowhere,
-}
 
 // How many points a method has at most, in a file that reads.
 const POINTS: usize = CODE_LIMIT as usize;
@@ -23,15 +17,12 @@ const POINTS: usize = CODE_LIMIT as usize;
 fn search_map(maps: &[u8], q: usize) -> u32
     ensures { map_there maps.now result ≡ map_at (maps_of maps.now) q }
 {
-    let n = classfile::map_count(maps);
     let mut place: u32 = 1;
-    let mut i: u8 = 0;
-    while i < n {
+    for i in 0..classfile::map_count(maps) {
         if usize::from(classfile::map_offset(maps, place)) == q {
             return place;
         }
         place += classfile::map_size(maps, place);
-        i += 1;
     }
     0
 }
@@ -52,14 +43,11 @@ pub(crate) fn index_maps(maps: &[u8]) -> [u32; POINTS]
     ensures { Indexed maps.now result }
 {
     let mut places = [0; POINTS];
-    let n = classfile::map_count(maps);
     let mut place: u32 = 1;
-    let mut i: u8 = 0;
-    while i < n {
+    for i in 0..classfile::map_count(maps) {
         let q = usize::from(classfile::map_offset(maps, place));
         put_place(&mut places, q, place);
         place += classfile::map_size(maps, place);
-        i += 1;
     }
     places
 }
@@ -79,11 +67,7 @@ pub(crate) fn find_map(maps: &[u8], places: &[u32], q: usize) -> u32
 fn is_conditional(c: Condition) -> bool
     ensures { (p : ℕ) → result ≡ goes_on (Instruction.Branch c p) }
 {
-    match c {
-        Condition::Always => false,
-        Condition::IfZero => true,
-        Condition::IfLess => true,
-    }
+    !matches!(c, Condition::Always)
 }
 
 // Whether the walk goes from an instruction to the next.
@@ -91,39 +75,19 @@ pub(crate) fn goes_on(i: Instruction) -> bool
     ensures { result ≡ goes_on i }
 {
     match i {
-        Instruction::AconstNull => true,
-        Instruction::Sipush(_) => true,
-        Instruction::Load(_, _) => true,
-        Instruction::Store(_, _) => true,
-        Instruction::Pop => true,
-        Instruction::Dup => true,
-        Instruction::Arithmetic(_) => true,
-        Instruction::Getfield(_, _, _) => true,
-        Instruction::Putfield(_, _, _) => true,
-        Instruction::Invokevirtual(_, _) => true,
-        Instruction::New(_) => true,
         Instruction::Return(_) => false,
         Instruction::Branch(c, _) => is_conditional(c),
+        _ => true,
     }
 }
 
-pub(crate) fn target_of(i: Instruction) -> Target
-    ensures { target_of result ≡ target i }
+// The point that a branch goes to.
+pub(crate) fn target_of(i: Instruction) -> Option<u16>
+    ensures { result ≡ optional (target i) }
 {
     match i {
-        Instruction::AconstNull => Target::Nowhere,
-        Instruction::Sipush(_) => Target::Nowhere,
-        Instruction::Load(_, _) => Target::Nowhere,
-        Instruction::Store(_, _) => Target::Nowhere,
-        Instruction::Pop => Target::Nowhere,
-        Instruction::Dup => Target::Nowhere,
-        Instruction::Arithmetic(_) => Target::Nowhere,
-        Instruction::Getfield(_, _, _) => Target::Nowhere,
-        Instruction::Putfield(_, _, _) => Target::Nowhere,
-        Instruction::Invokevirtual(_, _) => Target::Nowhere,
-        Instruction::New(_) => Target::Nowhere,
-        Instruction::Return(_) => Target::Nowhere,
-        Instruction::Branch(_, q) => Target::To(q),
+        Instruction::Branch(_, q) => Some(q),
+        _ => None,
     }
 }
 
@@ -138,21 +102,16 @@ fn is_wanting(maps: &[u8], places: &[u32], p: usize, wants: bool) -> bool
     requires { Indexed maps.now places.now }
     ensures { result ≡ (wants && is_none (map_at (maps_of maps.now) p)) }
 {
-    if wants {
-        is_bare(maps, places, p)
-    } else {
-        false
-    }
+    wants && is_bare(maps, places, p)
 }
 
 fn is_target_bare(maps: &[u8], places: &[u32], i: Instruction) -> bool
     requires { Indexed maps.now places.now }
     ensures { result ≡ any (λ q. is_none (map_at (maps_of maps.now) q)) (to_list (target i)) }
 {
-    let t = target_of(i);
-    match t {
-        Target::To(q) => is_bare(maps, places, usize::from(q)),
-        Target::Nowhere => false,
+    match target_of(i) {
+        Some(q) => is_bare(maps, places, usize::from(q)),
+        None => false,
     }
 }
 
@@ -161,8 +120,5 @@ pub(crate) fn is_lacking(maps: &[u8], places: &[u32], p: usize, wants: bool, i: 
     requires { Indexed maps.now places.now }
     ensures { result ≡ lacking (maps_of maps.now) p wants i }
 {
-    if is_wanting(maps, places, p, wants) {
-        return true;
-    }
-    is_target_bare(maps, places, i)
+    is_wanting(maps, places, p, wants) || is_target_bare(maps, places, i)
 }

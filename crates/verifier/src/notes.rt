@@ -1,5 +1,5 @@
 // Notes, posted as subtype constraints as they come.
-ghost use Rattle.std.specs.Prelude.{true, false, ◌≡◌, ◌<◌};
+ghost use Rattle.std.specs.Prelude.{true, false, ◌≡◌, ◌<◌, IfSome};
 ghost use Rattle.definition.specs.Lists.{rows, any};
 ghost use Rattle.definition.specs.Loading.{subtype_is};
 ghost use Rattle.definition.specs.Tables.{subtype_at};
@@ -9,10 +9,10 @@ ghost use Rattle.verifier.specs.Answers.{made};
 use crate::effects::Meeting;
 use definition::numbers::ROW_CELLS;
 
-// What verifying answers: whether it accepts, and how many rows the table of subtype constraints has with the notes. Past 256 there are too many.
+// The verifier rejects. The notes that came before are posted already: so many rows the table of subtype constraints has with them. Past 256 there are
+// too many.
 #[derive(Clone, Copy)]
-pub struct Verified {
-    pub accepts: bool,
+pub struct Rejected {
     pub count: u16,
 }
 
@@ -24,61 +24,52 @@ pub struct Posted {
     pub near: u16,
 }
 
-// What a flow into a map answers: whether it is met, and the same.
-#[derive(Clone, Copy)]
-pub struct Flowed {
-    pub accepts: bool,
-    pub count: u16,
-    pub near: u16,
-}
-
 // Row i, as a table of its own, has the note.
 fn is_row(subtypes: &[u16], i: u16, loader: u8, low: u16, high: u16) -> bool
     ensures { result ≡ true → subtype_is loader (note low high) (subtype_at subtypes.now i) ≡ true }
 {
     let start = usize::from(i) * ROW_CELLS;
     let end = start + ROW_CELLS;
-    if subtypes.len() < end {
-        return false;
-    }
-    rows::subtype_known(&subtypes[start..end], 1, loader, low, high)
+    end <= subtypes.len() && rows::subtype_known(&subtypes[start..end], 1, loader, low, high)
 }
 
-// The number of the row behind the last that has the note; 0 where none has it.
-fn behind_last(subtypes: &[u16], count: u16, loader: u8, low: u16, high: u16) -> u16
-    ensures { 0 < result → any (subtype_is loader (note low high)) (rows (subtype_at subtypes.now) count 0) ≡ true }
+// The number of the last row that has the note.
+fn last_row(subtypes: &[u16], count: u16, loader: u8, low: u16, high: u16) -> Option<u16>
+    ensures { IfSome result (λ i. (i < count) × (any (subtype_is loader (note low high)) (rows (subtype_at subtypes.now) count 0) ≡ true)) }
 {
-    let mut i = count;
-    while 0 < i {
-        if is_row(subtypes, i - 1, loader, low, high) {
-            return i;
+    for i in (0..count).rev() {
+        if is_row(subtypes, i, loader, low, high) {
+            return Some(i);
         }
-        i -= 1;
     }
-    0
+    None
 }
 
 // The same of any row that has it; row `near` is looked at first.
-fn behind_note(subtypes: &[u16], count: u16, near: u16, loader: u8, low: u16, high: u16) -> u16
-    ensures { 0 < result → any (subtype_is loader (note low high)) (rows (subtype_at subtypes.now) count 0) ≡ true }
+fn row_of_note(
+    subtypes: &[u16],
+    count: u16,
+    near: u16,
+    loader: u8,
+    low: u16,
+    high: u16,
+) -> Option<u16>
+    ensures { IfSome result (λ i. (i < count) × (any (subtype_is loader (note low high)) (rows (subtype_at subtypes.now) count 0) ≡ true)) }
 {
-    if near < count {
-        if is_row(subtypes, near, loader, low, high) {
-            return near + 1;
-        }
+    if near < count && is_row(subtypes, near, loader, low, high) {
+        return Some(near);
     }
-    behind_last(subtypes, count, loader, low, high)
+    last_row(subtypes, count, loader, low, high)
 }
 
 // Posts a note, unless it is there.
 fn post_near(low: u16, high: u16, loader: u8, subtypes: &mut [u16], count: u16, near: u16) -> Posted
     ensures { noted subtypes.new result.count ≡ post_note loader (note low high) (noted subtypes.old count) }
 {
-    let behind = behind_note(subtypes, count, near, loader, low, high);
-    if 0 < behind {
+    if let Some(row) = row_of_note(subtypes, count, near, loader, low, high) {
         return Posted {
             count,
-            near: behind,
+            near: row + 1,
         };
     }
     let after = rows::post_note(subtypes, count, loader, low, high);
@@ -113,14 +104,5 @@ pub(crate) fn post_meeting(m: Meeting, loader: u8, subtypes: &mut [u16], count: 
         Meeting::Unmet => count,
         Meeting::Met => count,
         Meeting::Noted(low, high) => rows::post_note(subtypes, count, loader, low, high),
-    }
-}
-
-pub(crate) fn rejected(count: u16) -> Verified
-    ensures { result ≡ record { accepts = false; count = count } }
-{
-    Verified {
-        accepts: false,
-        count,
     }
 }

@@ -4,15 +4,15 @@ ghost use Rattle.classfile.specs.Reading.{maps_of, file_version, class_name, met
 ghost use Rattle.verifier.specs.Lookups.{Indexed};
 ghost use Rattle.verifier.specs.Types.{types_of};
 ghost use Rattle.verifier.specs.Trace.{left_from};
+ghost use Rattle.cells.specs.Optional.{optional};
 ghost use Rattle.definition.specs.Places.{lacks_at, first_place};
-ghost use Rattle.verifier.specs.Stops.{point_of, place_of, stop_at_end, stops, whole_stop, check_point, check_in};
+ghost use Rattle.verifier.specs.Stops.{place_of, stop_at_end, stops, whole_stop, check_point, check_in};
 
-use crate::decoding::{Reading, decode};
+use crate::decoding::decode;
 use crate::lookups::{goes_on, index_maps, is_lacking};
-use crate::methods::{Passed, pass};
-use crate::turns::{Step, flow_into, turn_at};
+use crate::methods::pass;
+use crate::turns::{flow_into, turn_at};
 use crate::types::{Types, entry_types};
-use classfile::MethodFound;
 use definition::Signature;
 use definition::numbers::{SUBTYPE_LIMIT, VERSION_TWO};
 
@@ -23,49 +23,48 @@ pub enum Check {
     Types,
 }
 
-// A point of a method's code.
-#[derive(Clone, Copy)]
-pub enum Point {
-    At(usize),
-    Nowhere,
-}
-
 // A method, by its number in the file's order, and a point of its code.
 #[derive(Clone, Copy)]
-pub enum Found {
-    In(u8, usize),
-    Absent,
+pub struct Found {
+    pub method: u8,
+    pub point: usize,
 }
 
 // No note is posted: the table for them is empty and counts as one that has too many rows.
 const UNPOSTED: u16 = SUBTYPE_LIMIT + 1;
 
 // The code of n bytes ends where all maps are behind.
-fn stop_at_end(maps: &[u8], j: u8, n: usize) -> Point
-    ensures { point_of result ≡ stop_at_end n (left_from maps.now j) }
+fn stop_at_end(maps: &[u8], j: u8, n: usize) -> Option<usize>
+    ensures { result ≡ optional (stop_at_end n (left_from maps.now j)) }
 {
     if classfile::map_count(maps) <= j {
-        Point::Nowhere
+        None
     } else {
-        Point::At(n)
+        Some(n)
     }
 }
 
 // The walk from the first point on, where the types are these.
-fn walk_stop(version: u8, code: &[u8], maps: &[u8], places: &[u32], res: u16, first: Types) -> Point
+fn walk_stop(
+    version: u8,
+    code: &[u8],
+    maps: &[u8],
+    places: &[u32],
+    res: u16,
+    first: Types,
+) -> Option<usize>
     requires { Indexed maps.now places.now }
-    ensures { point_of result ≡ stops version code.now (maps_of maps.now) res (length code.now) 0 (maps_of maps.now) (types_of first) }
+    ensures { result ≡ optional (stops version code.now (maps_of maps.now) res (length code.now) 0 (maps_of maps.now) (types_of first)) }
 {
     let mut types = first;
-    let mut left = code.len();
     let mut p = 0;
     let mut i: u8 = 0;
     let mut place: u32 = 1;
-    while 0 < left {
-        let Passed::To(j, next) = pass(maps, i, place, p) else {
-            return Point::At(p);
+    for turn in 0..code.len() {
+        let Some(ahead) = pass(maps, i, place, p) else {
+            return Some(p);
         };
-        let turn = turn_at(
+        let Ok(turn) = turn_at(
             version,
             code,
             maps,
@@ -77,28 +76,33 @@ fn walk_stop(version: u8, code: &[u8], maps: &[u8], places: &[u32], res: u16, fi
             &mut [],
             UNPOSTED,
             UNPOSTED,
-        );
-        let step = turn.step;
-        match step {
-            Step::Stop => return Point::At(p),
-            Step::End => return stop_at_end(maps, j, code.len()),
-            Step::Next(q) => p = q,
-        }
-        let after = turn.types;
-        types = after;
-        i = j;
-        place = next;
-        left -= 1;
+        ) else {
+            return Some(p);
+        };
+        let Some(q) = turn.next else {
+            return stop_at_end(maps, ahead.number, code.len());
+        };
+        p = q;
+        types = turn.types;
+        i = ahead.number;
+        place = ahead.place;
     }
-    Point::At(p)
+    Some(p)
 }
 
 // The flow from entry, and the walk from the first point on.
-fn stop_of(version: u8, code: &[u8], maps: &[u8], places: &[u32], own: u16, s: Signature) -> Point
+fn stop_of(
+    version: u8,
+    code: &[u8],
+    maps: &[u8],
+    places: &[u32],
+    own: u16,
+    s: Signature,
+) -> Option<usize>
     requires { Indexed maps.now places.now }
-    ensures { point_of result ≡ check_point Check.Types version own s code.now (maps_of maps.now) }
+    ensures { result ≡ optional (check_point Check.Types version own s code.now (maps_of maps.now)) }
 {
-    let entry = flow_into(
+    let Ok(entry) = flow_into(
         maps,
         places,
         0,
@@ -107,38 +111,31 @@ fn stop_of(version: u8, code: &[u8], maps: &[u8], places: &[u32], own: u16, s: S
         &mut [],
         UNPOSTED,
         UNPOSTED,
-    );
-    let step = entry.step;
-    match step {
-        Step::Next(_) => walk_stop(version, code, maps, places, s.result, entry.types),
-        Step::Stop => Point::At(0),
-        Step::End => Point::At(0),
-    }
+    ) else {
+        return Some(0);
+    };
+    walk_stop(version, code, maps, places, s.result, entry.types)
 }
 
 // The code is read up to the first instruction that can't be. Version 1 has no maps, and lacks none.
-fn lack_of(version: u8, code: &[u8], maps: &[u8], places: &[u32]) -> Point
+pub(crate) fn lack_of(version: u8, code: &[u8], maps: &[u8], places: &[u32]) -> Option<usize>
     requires { Indexed maps.now places.now }
-    ensures { point_of result ≡ lacks_at version code.now (maps_of maps.now) }
+    ensures { result ≡ optional (lacks_at version code.now (maps_of maps.now)) }
 {
     if version < VERSION_TWO {
-        return Point::Nowhere;
+        return None;
     }
-    let mut left = code.len();
     let mut p: usize = 0;
     let mut wants = false;
-    while 0 < left {
-        let Reading::At(i, size) = decode(version, code, p) else {
-            return Point::Nowhere;
-        };
-        if is_lacking(maps, places, p, wants, i) {
-            return Point::At(p);
+    for turn in 0..code.len() {
+        let read = decode(version, code, p)?;
+        if is_lacking(maps, places, p, wants, read.instruction) {
+            return Some(p);
         }
-        wants = !goes_on(i);
-        p += size;
-        left -= 1;
+        wants = !goes_on(read.instruction);
+        p += read.size;
     }
-    Point::Nowhere
+    None
 }
 
 fn check_code(
@@ -149,9 +146,9 @@ fn check_code(
     own: u16,
     s: Signature,
     check: Check,
-) -> Point
+) -> Option<usize>
     requires { Indexed maps.now places.now }
-    ensures { point_of result ≡ check_point check version own s code.now (maps_of maps.now) }
+    ensures { result ≡ optional (check_point check version own s code.now (maps_of maps.now)) }
 {
     match check {
         Check::Maps => lack_of(version, code, maps, places),
@@ -167,8 +164,8 @@ fn check_method(
     own: u16,
     s: Signature,
     check: Check,
-) -> Point
-    ensures { point_of result ≡ check_point check version own s code.now (maps_of maps.now) }
+) -> Option<usize>
+    ensures { result ≡ optional (check_point check version own s code.now (maps_of maps.now)) }
 {
     if classfile::map_count(maps) == 0 {
         return check_code(version, code, maps, &[], own, s, check);
@@ -178,12 +175,12 @@ fn check_method(
 }
 
 // Method j of the file: its code and its maps are handed over as parts of the bytes.
-fn check_numbered(bytes: &[u8], j: u8, check: Check) -> Point
+fn check_numbered(bytes: &[u8], j: u8, check: Check) -> Option<usize>
     requires { j < method_count bytes.now }
-    ensures { point_of result ≡ check_in check (file_version bytes.now) (class_name bytes.now) (method_in bytes.now j) }
+    ensures { result ≡ optional (check_in check (file_version bytes.now) (class_name bytes.now) (method_in bytes.now j)) }
 {
-    let MethodFound::At(_, place) = classfile::method_place(bytes, j) else {
-        return Point::Nowhere;
+    let Some(place) = classfile::method_place(bytes, j) else {
+        return None;
     };
     let version = classfile::version(bytes);
     let own = classfile::class_name(bytes);
@@ -199,17 +196,13 @@ fn check_numbered(bytes: &[u8], j: u8, check: Check) -> Point
 }
 
 // The first method of a class file at which a check fails, and the point. The file's own rules are for others to check.
-pub fn find_place(bytes: &[u8], check: Check) -> Found
+pub fn find_place(bytes: &[u8], check: Check) -> Option<Found>
     ensures { place_of result ≡ first_place (check_in check (file_version bytes.now) (class_name bytes.now)) 0 (quick_methods bytes.now) }
 {
-    let n = classfile::method_count(bytes);
-    let mut j: u8 = 0;
-    while j < n {
-        let point = check_numbered(bytes, j, check);
-        match point {
-            Point::At(p) => return Found::In(j, p),
-            Point::Nowhere => j += 1,
+    for j in 0..classfile::method_count(bytes) {
+        if let Some(point) = check_numbered(bytes, j, check) {
+            return Some(Found { method: j, point });
         }
     }
-    Found::Absent
+    None
 }

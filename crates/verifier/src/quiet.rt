@@ -7,18 +7,17 @@ ghost use Rattle.verifier.specs.Types.{types_of};
 ghost use Rattle.verifier.specs.Trace.{trace, turned, left_from};
 ghost use Rattle.verifier.specs.Answers.{PlaceOf, QuietBy, QuietTo};
 
-use crate::decoding::{Reading, decode};
+use crate::decoding::decode;
 use crate::effects::{Effect, Meeting, effect_of};
-use crate::lookups::{Target, find_map, goes_on, target_of};
-use crate::methods::{Passed, pass};
+use crate::lookups::{find_map, goes_on, target_of};
+use crate::methods::pass;
 use crate::types::{LOCALS, OPERANDS, Types};
 use cells::arguments::argument_count;
 use definition::Arguments;
 
-// What a turn without notes does: it goes to that point, keeps the lowest operands, and pushes a type on them or sets a local. A loud turn is any other.
+// What a turn without notes does: it goes to that point, keeps the lowest operands, and pushes a type on them or sets a local.
 #[derive(Clone, Copy)]
 pub enum Quiet {
-    Loud,
     Keeps(usize, usize),
     Pushes(usize, usize, u32),
     Sets(usize, usize, usize, u32),
@@ -38,74 +37,64 @@ pub struct Run {
 fn is_silent(receiver: Meeting, names: Arguments) -> bool
     ensures { result ≡ true → (receiver ≡ Meeting.Met) × (names ≡ Arguments.NoArguments) }
 {
-    match receiver {
-        Meeting::Unmet => false,
-        Meeting::Met => argument_count(names) == 0,
-        Meeting::Noted(_, _) => false,
-    }
+    matches!(receiver, Meeting::Met) && argument_count(names) == 0
 }
 
-fn keeps(q: usize, d: usize, receiver: Meeting, names: Arguments) -> Quiet
+fn keeps(q: usize, d: usize, receiver: Meeting, names: Arguments) -> Option<Quiet>
     ensures { (s : Types) → length s.operands ≡ 16 → length s.locals ≡ 8 → QuietBy q s (Effect.Kept d receiver names) result }
 {
     if OPERANDS < d {
-        return Quiet::Loud;
+        return None;
     }
     if is_silent(receiver, names) {
-        Quiet::Keeps(q, d)
+        Some(Quiet::Keeps(q, d))
     } else {
-        Quiet::Loud
+        None
     }
 }
 
-fn pushes(q: usize, d: usize, t: u32, receiver: Meeting, names: Arguments) -> Quiet
+fn pushes(q: usize, d: usize, t: u32, receiver: Meeting, names: Arguments) -> Option<Quiet>
     ensures { (s : Types) → length s.operands ≡ 16 → length s.locals ≡ 8 → QuietBy q s (Effect.Pushed d t receiver names) result }
 {
     if OPERANDS <= d {
-        return Quiet::Loud;
+        return None;
     }
     if is_silent(receiver, names) {
-        Quiet::Pushes(q, d, t)
+        Some(Quiet::Pushes(q, d, t))
     } else {
-        Quiet::Loud
+        None
     }
 }
 
-fn sets(q: usize, d: usize, i: usize, t: u32) -> Quiet
+fn sets(q: usize, d: usize, i: usize, t: u32) -> Option<Quiet>
     ensures { (s : Types) → length s.operands ≡ 16 → length s.locals ≡ 8 → QuietBy q s (Effect.Stored d i t) result }
 {
     if OPERANDS < d {
-        return Quiet::Loud;
+        return None;
     }
     if LOCALS <= i {
-        Quiet::Loud
+        None
     } else {
-        Quiet::Sets(q, d, i, t)
+        Some(Quiet::Sets(q, d, i, t))
     }
 }
 
-// An effect of an instruction that goes on to point q.
-fn quiet_of(e: Effect, q: usize) -> Quiet
+// An effect of an instruction that goes on to point q; none where the turn isn't quiet.
+fn quiet_of(e: Effect, q: usize) -> Option<Quiet>
     ensures { (s : Types) → length s.operands ≡ 16 → length s.locals ≡ 8 → QuietBy q s e result }
 {
     match e {
-        Effect::Rejected => Quiet::Loud,
+        Effect::Rejected => None,
         Effect::Kept(d, receiver, names) => keeps(q, d, receiver, names),
         Effect::Pushed(d, t, receiver, names) => pushes(q, d, t, receiver, names),
         Effect::Stored(d, i, t) => sets(q, d, i, t),
-        Effect::Ended(_) => Quiet::Loud,
+        Effect::Ended(_) => None,
     }
 }
 
 // Branches, returns, putfield and invokevirtual are left to the others by their first byte.
 fn may_be_quiet(b: u8) -> bool {
-    if b < 0x99 {
-        return true;
-    }
-    if b == 0xB4 {
-        return true;
-    }
-    b == 0xBB
+    b < 0x99 || b == 0xB4 || b == 0xBB
 }
 
 // The instruction at point p of a method with that result type.
@@ -117,25 +106,21 @@ fn quiet_at(
     p: usize,
     res: u16,
     types: Types,
-) -> Quiet
+) -> Option<Quiet>
     requires { Indexed maps.now places.now }
     ensures { QuietTo (turned version code.now (maps_of maps.now) res p (types_of types)) types result }
 {
     if !may_be_quiet(cells::at(code, p)) {
-        return Quiet::Loud;
+        return None;
     }
-    let Reading::At(i, size) = decode(version, code, p) else {
-        return Quiet::Loud;
-    };
-    if !goes_on(i) {
-        return Quiet::Loud;
+    let read = decode(version, code, p)?;
+    let i = read.instruction;
+    if !goes_on(i) || target_of(i).is_some() {
+        return None;
     }
-    let Target::Nowhere = target_of(i) else {
-        return Quiet::Loud;
-    };
-    let q = p + size;
+    let q = p + read.size;
     if find_map(maps, places, q) != 0 {
-        return Quiet::Loud;
+        return None;
     }
     quiet_of(effect_of(types, i, res), q)
 }
@@ -162,12 +147,13 @@ pub(crate) fn quiet_run(
     let mut i = map;
     let mut place = at;
     while 1 < left {
-        let Passed::To(j, next) = pass(maps, i, place, point) else {
+        let Some(ahead) = pass(maps, i, place, point) else {
             break;
         };
-        let quiet = quiet_at(version, code, maps, places, point, res, types);
+        let Some(quiet) = quiet_at(version, code, maps, places, point, res, types) else {
+            break;
+        };
         match quiet {
-            Quiet::Loud => break,
             Quiet::Keeps(q, d) => {
                 types.depth = d;
                 point = q;
@@ -183,8 +169,8 @@ pub(crate) fn quiet_run(
                 point = q;
             }
         }
-        i = j;
-        place = next;
+        i = ahead.number;
+        place = ahead.place;
         left -= 1;
     }
     Run {

@@ -1,19 +1,20 @@
 -- getfield is refused if its class is not loaded under the loader or declares no such field, itself or upward; else the field is read.
-use mathlib.Core.Path.{sym, ◌∙◌}
-use borrow.Author.Rules.{rules}
-use Rattle.access.specs.Members.{cached, uncached, getfield-uncached, getfield-undeclared, getfield-right}
-use Rattle.resolution.specs.Quick.{found_at, found-absent, loader-quick}
+use Rattle.std.proofs.Math.Path.{sym}
+use Rattle.std.proofs.Common.{◌∙◌}
+use Rattle.std.proofs.lemmas.Result.{err_from_is_err_and}
+use Rattle.access.specs.Members.{getfield-refused, getfield-right}
+use Rattle.resolution.specs.Quick.{loader-quick}
 use Rattle.access.proofs.fields.getfield.Goals as goal
 
-pub returns-in_default : goal.returns-in_default
-returns-in_default c = getfield-uncached _ _ _ _ _ _ _ _ _ _ (uncached _ _ _ _ _ _ _ _ c.find.ensures c.from.ensures c.in_default.is) _ _
-
-pub returns-in_default-nearest_field : goal.returns-in_default-nearest_field
-returns-in_default-nearest_field c = getfield-undeclared _ _ _ _ _ _ _ _ _ _ _ (cached _ _ _ _ _ _ _ _ c.find.ensures c.from.ensures _ c.in-At.is) _ _ (found-absent _ (sym c.nearest_field.ensures ∙ c.in_default-nearest_field.is))
+pub returns-in_err-field : goal.returns-in_err-field
+returns-in_err-field c =
+    let p = err_from_is_err_and c.from_residual.result c.from_residual.ensures.1 in
+    rw (p.1, p.2) (getfield-refused _ _ _ _ _ _ _ _ _ _ _ _ _ c.in_err-field.ensures)
 
 pub read_field-requires : goal.read_field-requires
-read_field-requires c = found_at _ _ (sym c.nearest_field.ensures ∙ c.in-At-nearest_field.is)
+read_field-requires c = c.in_ok-field.ensures.1
 
 pub returns : goal.returns
 returns c =
-    getfield-right _ _ _ _ _ _ _ _ _ _ _ (cached _ _ _ _ _ _ _ _ c.find.ensures c.from.ensures _ c.in-At.is) _ _ (c.loader_of-one.ensures ∙ sym (loader-quick c.args.counts.now c.args.classes.now c.args.kept.now c.args.cache.now _)) _ _ _ (found_at _ _ (sym c.nearest_field.ensures ∙ c.in-At-nearest_field.is)) c.read_field.ensures
+    let base = c.args.base.now in
+    getfield-right _ _ _ _ _ _ _ _ _ _ _ c.in_ok-field.ensures.0 _ _ (c.loader_of.ensures ∙ sym (loader-quick base.counts.now base.classes.now base.kept.now base.cache.now _)) _ _ _ c.in_ok-field.ensures.1 c.read_field.ensures

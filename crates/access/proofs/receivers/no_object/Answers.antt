@@ -8,10 +8,10 @@ pub returns-then-v-eq0 : goal.returns-then-v-eq0
 unfolding no_object pick
 returns-then-v-eq0 c = rw (eq-eqb _ _ c.if-v-eq-KIND_NULL.true, eq-eqb _ _ c.if-v-eq0.true)
 
-pub returns-else-v-eq0 : goal.returns-else-v-eq0
-unfolding no_object pick
-returns-else-v-eq0 c = rw (eq-eqb _ _ c.if-v-eq-KIND_NULL.true, ne_eqb _ _ c.if-v-eq0.false)
-
 pub returns-else-v-eq-KIND_NULL : goal.returns-else-v-eq-KIND_NULL
 unfolding no_object pick
-returns-else-v-eq-KIND_NULL c = rw (ne_eqb _ _ c.if-v-eq-KIND_NULL.false)
+returns-else-v-eq-KIND_NULL c =
+    elim c.else-v-eq-KIND_NULL.branch [
+      | goal.else-v-eq-KIND_NULL-via-then-v-eq-KIND_NULL+else-v-eq0 w ↦ rw (eq-eqb _ _ w.if-v-eq-KIND_NULL.true, ne_eqb _ _ w.if-v-eq0.false)
+      | goal.else-v-eq-KIND_NULL-via-else-v-eq-KIND_NULL w ↦ rw (ne_eqb _ _ w.if-v-eq-KIND_NULL.false)
+    ]

@@ -34,7 +34,7 @@ find_break-requires c =
     (c.at_most-cached.ensures.1, c.at_most-noted.ensures.1, rooted-by _ _ ones ones (omega arith) c.group_places.ensures.is_group, search rules, search rules)
 
 pub tell-requires : goal.tell-requires
-tell-requires c = λ a b e. let fits = pair_fits c.find_break.ensures a b e in let few = c.at_most-cached.ensures.1 in (omega (arith, fits.0, few), omega (arith, fits.1, few))
+tell-requires c = pair_fits _ c.at_most-cached.ensures.1 c.find_break.ensures
 
 pub returns : goal.returns
 returns c =

@@ -6,7 +6,7 @@ use native.Mathlib.Omega.{arith}
 use lib.ListN.{get_or}
 use Rattle.constraints.proofs.Choices.{considered-none, stays-longer, stays_after, comes-in}
 use Rattle.constraints.proofs.choosing.consider.Goals as goal
-use Rattle.constraints.proofs.choosing.consider.Goals.{then-size-k-2+else-not-goes_before, else-size-k-2}
+use Rattle.constraints.proofs.choosing.consider.Goals.{else-size-k-2-via-then-size-k-2+else-not-goes_before, else-size-k-2-via-else-size-k-2}
 
 pub returns-then-dist-eq0 : goal.returns-then-dist-eq0
 returns-then-dist-eq0 c = (c.requires.0, sym (considered-none _ _ _ _ _ _ (sym c.at-dist.ensures ∙ c.if-dist-eq0.true)))
@@ -41,6 +41,9 @@ returns c =
     let low : k ≤ 1280 = omega (arith, dist, pre.1) in (
       record { long = c.write_trail.auto.best ∙ pre.0.long; fits = inl low },
       comes-in _ _ _ _ args.best.now _ k _ dist low _ pre.0.fits c.if-size-k.false
-          (λ e. elim c.if-size-k-2.branch [ then-size-k-2+else-not-goes_before w ↦ rw w.from.ensures at (sym w.goes_before.ensures ∙ w.if-not-goes_before.false) | else-size-k-2 w ↦ absurd (w.if-size-k-2.false e) ])
+          (λ e. elim c.else-size-k-2.branch [
+            | else-size-k-2-via-then-size-k-2+else-not-goes_before w ↦ rw w.from.ensures at (sym w.goes_before.ensures ∙ w.if-not-goes_before.false)
+            | else-size-k-2-via-else-size-k-2 w ↦ absurd (w.if-size-k-2.false e)
+          ])
           (rw c.from-2.ensures at c.write_trail.ensures),
     )

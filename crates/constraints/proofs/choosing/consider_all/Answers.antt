@@ -1,15 +1,13 @@
--- What is left to be considered makes what all of it does.
 use mathlib.Core.Path.{sym, ◌∙◌}
-use native.Mathlib.Omega.{arith}
 use Rattle.constraints.proofs.Choices.{left-start, left_here, left-past, left-none}
 use Rattle.constraints.proofs.choosing.consider_all.Goals as goal
 use Rattle.constraints.proofs.choosing.consider_all.Goals.{then-at-c, else-at-c}
 
 pub loop-q-init : goal.loop-q-init
-loop-q-init c = (omega arith, c.requires.0, left-start _ _ _ _ _ _ _ _)
+loop-q-init c = (c.requires.0, left-start _ _ _ _ _ _ _ _)
 
 pub consider-kept-requires : goal.consider-kept-requires
-consider-kept-requires c = (c.loop-q.invariant.1, c.requires.1 c.loop-q.q)
+consider-kept-requires c = (c.loop-q.invariant.0, c.requires.1 c.loop-q.q)
 
 pub loop-q-preserved : goal.loop-q-preserved
 loop-q-preserved c =
@@ -17,13 +15,10 @@ loop-q-preserved c =
     let test = c.loop-q-test in
     elim c.if-at-c.branch [
       | then-at-c w ↦ rw (w.best-is, w.kept-is)
-          (omega arith, w.consider-kept.ensures.0, rw w.consider-kept.ensures.1 (sym (left_here _ _ _ _ _ _ _ _ _ test.true (sym c.at.ensures ∙ w.if-at-c.true)) ∙ loop.invariant.2))
+          (w.consider-kept.ensures.0, rw w.consider-kept.ensures.1 (sym (left_here _ _ _ _ _ _ _ _ _ test.true (sym c.at.ensures ∙ w.if-at-c.true)) ∙ loop.invariant.1))
       | else-at-c w ↦ rw (w.best-is, w.kept-is)
-          (omega arith, loop.invariant.1, sym (left-past _ _ _ _ _ _ _ _ _ test.true (λ e. w.if-at-c.false (c.at.ensures ∙ e))) ∙ loop.invariant.2)
+          (loop.invariant.0, sym (left-past _ _ _ _ _ _ _ _ _ test.true (λ e. w.if-at-c.false (c.at.ensures ∙ e))) ∙ loop.invariant.1)
     ]
 
-pub shape_of-best : goal.shape_of-best
-shape_of-best c = c.loop-q.invariant.1.long ∙ sym c.requires.0.long
-
 pub returns : goal.returns
-returns c = (c.loop-q.invariant.1, sym (left-none _ _ _ _ _ _ _ _ _ c.loop-q-test.false) ∙ c.loop-q.invariant.2)
+returns c = (c.loop-q.invariant.0, sym (left-none _ _ _ _ _ _ _ _ _ c.loop-q-test.false) ∙ c.loop-q.invariant.1)

@@ -1,8 +1,6 @@
--- The classes of the first p cached requests were searched for; those that are marked as met are some of them.
-use Prim.Native.Nat.{ℕ}
 use mathlib.Core.Path.{◌≡◌, sym, ◌∙◌}
 use native.Mathlib.Omega.{arith}
-use lib.ListN.{get_or, set, length-set, length-replicate}
+use lib.ListN.{get_or, set}
 use borrow.Author.Tests.{eqb-true}
 use Rattle.constraints.proofs.Choices.{starts-low, met-none, met-more, swept_none, swept-met, swept-one, swept_all}
 use Rattle.constraints.proofs.Filling.{joined-none}
@@ -16,15 +14,15 @@ join-requires c = (omega arith, c.requires.1.few, starts-low c.requires.1, joine
 
 pub loop-p-init : goal.loop-p-init
 loop-p-init c =
-    (omega arith, c.requires.2, stamped-none 256 0, met-none c.args.classes.now, length-replicate {A = ℕ} 256 0, swept_none _ _ _ _ _ _ _ _ _)
+    (c.requires.2, stamped-none 256 0, met-none c.args.classes.now, swept_none _ _ _ _ _ _ _ _ _)
 
 pub mark_above-requires : goal.mark_above-requires
-mark_above-requires c = (omega arith, stamped-more (omega arith) c.loop-p.invariant.2)
+mark_above-requires c = (omega arith, stamped-more (omega arith) c.loop-p.invariant.1)
 
 pub search_class-kept-requires : goal.search_class-kept-requires
 search_class-kept-requires c =
     let pre = c.requires in
-    (omega (arith, pre.0), record { in_range = pre.1; joined = c.join.ensures }, c.loop-p.invariant.1, pre.3)
+    (omega (arith, pre.0), record { in_range = pre.1; joined = c.join.ensures }, c.loop-p.invariant.0, pre.3)
 
 pub loop-p-preserved : goal.loop-p-preserved
 loop-p-preserved c =
@@ -37,25 +35,18 @@ loop-p-preserved c =
     rw met
     (elim c.if-not-was_met.branch [
       | then-not-was_met w ↦ rw (w.best-is, w.aboves-is, w.kept-is) (
-        omega arith,
         w.search_class-kept.ensures.0,
         w.mark_above.ensures.stamped,
-        met-more args.classes.now loop.p loop.met loop.invariant.3,
-        length-set loop.met _ _ ∙ loop.invariant.4,
-        swept-one _ _ _ _ _ _ _ _ _ _ (super-falls args.supers.now) w.mark_above.ensures loop.invariant.5 (rw c.at-class.ensures at w.search_class-kept.ensures.1),
+        met-more args.classes.now loop.p loop.met loop.invariant.2,
+        swept-one _ _ _ _ _ _ _ _ _ _ (super-falls args.supers.now) w.mark_above.ensures loop.invariant.3 (rw c.at-class.ensures at w.search_class-kept.ensures.1),
       )
       | else-not-was_met w ↦ rw (w.best-is, w.aboves-is, w.kept-is) (
-        omega arith,
-        loop.invariant.1,
-        stamped-more (omega arith) loop.invariant.2,
-        met-more args.classes.now loop.p loop.met loop.invariant.3,
-        length-set loop.met _ _ ∙ loop.invariant.4,
-        swept-met _ _ _ _ _ _ _ _ loop.met loop.invariant.3 (rw class at (eqb-true (get_or loop.met from.result 0) 1 (sym was-met.ensures.0 ∙ w.if-not-was_met.false))) loop.invariant.5,
+        loop.invariant.0,
+        stamped-more (omega arith) loop.invariant.1,
+        met-more args.classes.now loop.p loop.met loop.invariant.2,
+        swept-met _ _ _ _ _ _ _ _ loop.met loop.invariant.2 (rw class at (eqb-true (get_or loop.met from.result 0) 1 (sym was-met.ensures.0 ∙ w.if-not-was_met.false))) loop.invariant.3,
       )
     ])
 
-pub shape_of-best : goal.shape_of-best
-shape_of-best c = c.loop-p.invariant.1.long ∙ sym c.requires.2.long
-
 pub returns : goal.returns
-returns c = (c.loop-p.invariant.1, swept_all _ _ _ _ _ _ _ _ c.loop-p-test.false c.loop-p.invariant.5)
+returns c = (c.loop-p.invariant.0, swept_all _ _ _ _ _ _ _ _ c.loop-p-test.false c.loop-p.invariant.3)

@@ -1,6 +1,4 @@
-use Prim.Native.Nat.{◌-◌, ◌≤◌}
-use mathlib.Core.Path.{◌≡◌}
-use lib.ListN.{length}
+-- The classes of the first p cached requests were searched for; those that are marked as met are some of them.
 use Rattle.constraints.specs.Agreement.{super_in}
 use Rattle.constraints.specs.Choosing.{held, Holds}
 use Rattle.constraints.specs.Search.{Stamped}
@@ -9,12 +7,7 @@ use Rattle.constraints.proofs.choosing.search_all.Given as goal
 
 abbrev pub invariant-loop-p : goal.invariant-loop-p
 invariant-loop-p l =
-    (l.p ≤ l.cached)
-    × Holds l.best l.kept
+    Holds l.best l.kept
     × Stamped 256 l.p l.aboves
     × Met l.classes l.p l.met
-    × (length l.met ≡ 256)
     × Swept l.froms l.tos l.labels l.count l.classes l.cached l.only (super_in l.supers) l.p (held l.initial.best l.size) (held l.best l.kept)
-
-abbrev pub decreases-loop-p : goal.decreases-loop-p
-decreases-loop-p l = l.cached - l.p

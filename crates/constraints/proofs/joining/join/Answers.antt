@@ -1,34 +1,27 @@
--- The first e places are joined.
 use Prim.Native.Nat.{◌<◌}
-use mathlib.Core.Path.{◌≡◌, sym, ◌∙◌}
+use mathlib.Core.Path.{◌≡◌}
 use native.Mathlib.Omega.{arith}
 use Rattle.constraints.specs.Search.{start_of}
 use Rattle.constraints.proofs.Filling.{joined-more}
 use Rattle.constraints.proofs.joining.join.Goals as goal
 
 pub loop-e-init : goal.loop-e-init
-loop-e-init c = (omega arith, c.requires.3)
+loop-e-init c = c.requires.3
 
 pub enter-requires : goal.enter-requires
 unfolding start_of
 enter-requires c =
     let loop = c.loop-e in
     let low : c.place.result < 1280 = rw c.place.ensures.0 (c.requires.2 loop.e c.loop-e-test.true) in
-    (omega (arith, c.loop-e-test.true), omega (arith, loop.invariant.1.nexts_long, c.loop-e-test.true), omega (arith, loop.invariant.1.heads_long, low))
+    (omega (arith, c.loop-e-test.true), omega (arith, loop.invariant.nexts_long, c.loop-e-test.true), omega (arith, loop.invariant.heads_long, low))
 
 pub loop-e-preserved : goal.loop-e-preserved
 unfolding start_of
 loop-e-preserved c =
     let loop = c.loop-e in
     let low : c.place.result < 1280 = rw c.place.ensures.0 (c.requires.2 loop.e c.loop-e-test.true) in
-    (omega arith, rw (c.enter.ensures.nexts_after, c.enter.ensures.heads_after) (joined-more _ _ _ _ _ c.place.ensures.0 low (omega (arith, c.loop-e-test.true)) loop.invariant.1))
-
-pub shape_of-heads : goal.shape_of-heads
-shape_of-heads c = c.loop-e.invariant.1.heads_long ∙ sym c.requires.3.heads_long
-
-pub shape_of-nexts : goal.shape_of-nexts
-shape_of-nexts c = c.loop-e.invariant.1.nexts_long ∙ sym c.requires.3.nexts_long
+    rw (c.enter.ensures.nexts_after, c.enter.ensures.heads_after) (joined-more _ _ _ _ _ c.place.ensures.0 low (omega (arith, c.loop-e-test.true)) loop.invariant)
 
 pub returns : goal.returns
 returns c =
-    let e : c.loop-e.e ≡ c.args.n = omega arith in rw e at c.loop-e.invariant.1
+    let e : c.loop-e.e ≡ c.args.n = omega arith in rw e at c.loop-e.invariant

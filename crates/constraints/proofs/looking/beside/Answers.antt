@@ -9,5 +9,5 @@ pub returns-then-turn-eq1 : goal.returns-then-turn-eq1
 unfolding lead_of
 returns-then-turn-eq1 c = c.place.ensures.0 ∙ sym (ap (λ (t : ℕ). lead_of t c.args.groups.now c.args.a c.args.b) c.if-turn-eq1.true)
 
-pub returns : goal.returns
-returns c = lead-other _ _ _ _ c.if-turn-eq1.false
+pub returns-else-turn-eq1 : goal.returns-else-turn-eq1
+returns-else-turn-eq1 c = lead-other _ _ _ _ c.if-turn-eq1.false

@@ -1,4 +1,3 @@
--- No link that was passed ends at the group.
 use mathlib.Core.Path.{sym, ◌∙◌}
 use mathlib.Core.Bool.{false≢true}
 use native.Mathlib.Omega.{arith}
@@ -7,7 +6,7 @@ use Rattle.constraints.specs.Search.{start_of}
 use Rattle.constraints.proofs.looking.is_end.Goals as goal
 
 pub loop-e-init : goal.loop-e-init
-loop-e-init c = (omega arith, λ d h. absurd (omega arith))
+loop-e-init c = λ d h. absurd (omega arith)
 
 pub returns-then-place-group : goal.returns-then-place-group
 returns-then-place-group c = λ q. absurd (false≢true (sym q))
@@ -16,8 +15,8 @@ pub loop-e-preserved : goal.loop-e-preserved
 unfolding start_of
 loop-e-preserved c =
     let loop = c.loop-e in
-    (omega arith, below_more _ _ loop.invariant.1 (λ q. c.if-place-group.false (c.place.ensures.0 ∙ q)))
+    below_more _ _ loop.invariant (λ q. c.if-place-group.false (c.place.ensures.0 ∙ q))
 
 pub returns : goal.returns
 unfolding start_of
-returns c = λ _ e h. c.loop-e.invariant.1 e (omega arith)
+returns c = λ _ e h. c.loop-e.invariant e (omega arith)

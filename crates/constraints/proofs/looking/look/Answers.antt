@@ -1,11 +1,13 @@
 -- What is looked at in each turn.
 use native.Mathlib.Omega.{arith}
+use Prim.Native.Nat.{◌<◌}
 use mathlib.Core.Path.{sym, ◌∙◌}
 use mathlib.Core.Logic.{⊎_elim}
 use native.Mathlib.Numerals.{add-one}
 use Rattle.constraints.proofs.Marking.{stamped-more}
 use Rattle.constraints.proofs.Looks.{later-ties, later-none, later-linked}
 use Rattle.constraints.proofs.looking.look.Goals as goal
+use Rattle.constraints.proofs.looking.look.Goals.{then-noted-eq0-via-then-noted-eq0, then-noted-eq0-via-else-noted-eq0+then-place-a}
 
 pub look_first-requires : goal.look_first-requires
 look_first-requires c = let pre = c.requires in (pre.0, pre.1, pre.3 (λ z. omega (arith, c.if-turn-eq0.true)), pre.4, pre.5, rw c.if-turn-eq0.true at pre.6)
@@ -17,10 +19,12 @@ pub returns-then-turn-eq1 : goal.returns-then-turn-eq1
 returns-then-turn-eq1 c = later-ties _ _ _ _ _ _ c.requires.6 c.if-turn-eq1.true
 
 pub returns-then-noted-eq0 : goal.returns-then-noted-eq0
-returns-then-noted-eq0 c = later-none _ _ _ _ _ _ c.requires.6 (omega (arith, c.if-turn-eq0.false, c.if-turn-eq1.false)) (λ _. c.if-noted-eq0.true)
-
-pub returns-then-place-a : goal.returns-then-place-a
-returns-then-place-a c = later-none _ _ _ _ _ _ c.requires.6 (omega (arith, c.if-turn-eq0.false, c.if-turn-eq1.false)) (λ o. absurd (c.if-place-a.true (c.place.ensures.0 ∙ o)))
+returns-then-noted-eq0 c =
+    let later : 1 < c.args.turn = omega (arith, c.if-turn-eq0.false, c.if-turn-eq1.false) in
+    elim c.then-noted-eq0.branch [
+      | then-noted-eq0-via-then-noted-eq0 w ↦ later-none _ _ _ _ _ _ c.requires.6 later (λ _. w.if-noted-eq0.true)
+      | then-noted-eq0-via-else-noted-eq0+then-place-a w ↦ later-none _ _ _ _ _ _ c.requires.6 later (λ o. absurd (w.if-place-a.true (w.place.ensures.0 ∙ o)))
+    ]
 
 pub look_ahead-requires : goal.look_ahead-requires
 look_ahead-requires c =

@@ -1,4 +1,3 @@
--- At no request that was passed a link starts.
 use mathlib.Core.Path.{refl, sym, ◌∙◌}
 use mathlib.Core.Logic.{inl, inr}
 use native.Mathlib.Omega.{arith}
@@ -12,29 +11,29 @@ pub returns-then-noted-eq0 : goal.returns-then-noted-eq0
 returns-then-noted-eq0 c = record { low = omega (arith, c.requires.0); high = omega arith; ties = λ z. absurd (c.if-turn-eq0.false z); none = λ m h l. inl c.if-noted-eq0.true }
 
 pub loop-a-init : goal.loop-a-init
-loop-a-init c = (omega arith, omega (arith, c.requires.0, c.if-turn-eq0.false), λ m h l. absurd (omega arith))
+loop-a-init c = λ m h l. absurd (omega arith)
 
 pub returns-then-at-ne0 : goal.returns-then-at-ne0
 returns-then-at-ne0 c =
     let loop = c.loop-a in
     record {
-      low = omega (arith, loop.invariant.0);
+      low = omega arith;
       high = omega (arith, c.loop-a-test.true);
       ties = λ z. absurd (c.if-turn-eq0.false z);
-      none = λ m h l. inr (loop.invariant.2 m (omega arith) l);
+      none = λ m h l. inr (loop.invariant m (omega arith) l);
     }
 
 pub loop-a-preserved : goal.loop-a-preserved
 loop-a-preserved c =
     let loop = c.loop-a in
-    (omega arith, omega (arith, c.loop-a-test.true), below_more _ _ loop.invariant.2 (λ l. sym c.at.ensures ∙ c.if-at-ne0.false))
+    below_more _ _ loop.invariant (λ l. sym c.at.ensures ∙ c.if-at-ne0.false)
 
 pub returns : goal.returns
 returns c =
     let loop = c.loop-a in
     record {
-      low = omega (arith, loop.invariant.0, loop.invariant.1);
+      low = omega arith;
       high = omega arith;
       ties = λ z. absurd (c.if-turn-eq0.false z);
-      none = λ m h l. inr (loop.invariant.2 m (omega (arith, c.loop-a-test.false)) l);
+      none = λ m h l. inr (loop.invariant m (omega (arith, c.loop-a-test.false)) l);
     }

@@ -1,27 +1,22 @@
--- The first p places have their nodes and are joined by their numbers.
 use Prim.Native.Nat.{◌≤◌}
-use mathlib.Core.Path.{◌≡◌, refl, sym, ◌∙◌}
+use mathlib.Core.Path.{◌≡◌, refl, sym}
 use native.Mathlib.Omega.{arith}
-use lib.ListN.{length-set}
 use Rattle.constraints.specs.Nodes.{First}
 use Rattle.constraints.proofs.Filling.{fill_more, joined-first, joined-more, bucket-key}
 use Rattle.constraints.proofs.numbering.number_nodes.Goals as goal
 
 pub loop-p-init : goal.loop-p-init
-loop-p-init c = (omega arith, λ q h. absurd (omega arith), joined-first _ _ c.requires.3, c.requires.2)
+loop-p-init c = (λ q h. absurd (omega arith), joined-first _ _ c.requires.3)
 
 pub node_of-node-requires : goal.node_of-node-requires
 node_of-node-requires c =
     let loop = c.loop-p in
     let few : loop.p ≤ 1280 = omega (arith, c.loop-p-test.true) in
     let key = bucket-key c.args.numbers.now loop.p _ _ c.bucket-key.ensures.0 refl in
-    (omega arith, omega (arith, c.loop-p-test.true), omega (arith, loop.invariant.3), omega (arith, loop.invariant.2.nexts_long), loop.invariant.1, rw (c.from.ensures, sym key) (loop.invariant.2.head c.bucket-key.result (omega (arith, c.bucket-key.ensures.1))), loop.invariant.2.next)
-
-pub bounds-nodes-p : goal.bounds-nodes-p
-bounds-nodes-p c = omega (arith, c.loop-p.invariant.3, c.loop-p-test.true)
+    (omega arith, omega (arith, c.loop-p-test.true), omega arith, omega (arith, loop.invariant.1.nexts_long), loop.invariant.0, rw (c.from.ensures, sym key) (loop.invariant.1.head c.bucket-key.result (omega (arith, c.bucket-key.ensures.1))), loop.invariant.1.next)
 
 pub enter-requires : goal.enter-requires
-enter-requires c = (omega (arith, c.loop-p-test.true), omega (arith, c.loop-p.invariant.2.nexts_long, c.loop-p-test.true), omega (arith, c.loop-p.invariant.2.heads_long, c.bucket-key.ensures.1))
+enter-requires c = (omega (arith, c.loop-p-test.true), omega (arith, c.loop-p.invariant.1.nexts_long, c.loop-p-test.true), omega (arith, c.loop-p.invariant.1.heads_long, c.bucket-key.ensures.1))
 
 pub loop-p-preserved : goal.loop-p-preserved
 loop-p-preserved c =
@@ -29,19 +24,11 @@ loop-p-preserved c =
     let numbers = c.args.numbers.now in
     let key = bucket-key numbers loop.p _ _ c.bucket-key.ensures.0 refl in
     rw (c.enter.ensures.nexts_after, c.enter.ensures.heads_after) (
-      omega arith,
-      fill_more (λ q. q) (λ q v. First numbers q v) loop.nodes loop.p c.node_of-node.result (omega (arith, loop.invariant.3, c.loop-p-test.true)) (λ q h r. omega arith) loop.invariant.1
+      fill_more (λ q. q) (λ q v. First numbers q v) loop.nodes loop.p c.node_of-node.result (omega arith) (λ q h r. omega arith) loop.invariant.0
           c.node_of-node.ensures,
-      joined-more _ _ _ _ _ key (omega (arith, c.bucket-key.ensures.1)) (omega (arith, c.loop-p-test.true)) loop.invariant.2,
-      length-set loop.nodes _ _ ∙ loop.invariant.3,
+      joined-more _ _ _ _ _ key (omega (arith, c.bucket-key.ensures.1)) (omega (arith, c.loop-p-test.true)) loop.invariant.1,
     )
-
-pub shape_of-nodes : goal.shape_of-nodes
-shape_of-nodes c = c.loop-p.invariant.3 ∙ sym c.requires.2
-
-pub shape_of-nexts : goal.shape_of-nexts
-shape_of-nexts c = c.loop-p.invariant.2.nexts_long ∙ sym c.requires.3
 
 pub returns : goal.returns
 returns c =
-    let e : c.loop-p.p ≡ c.args.n = omega arith in rw e at c.loop-p.invariant.1
+    let e : c.loop-p.p ≡ c.args.n = omega arith in rw e at c.loop-p.invariant.0

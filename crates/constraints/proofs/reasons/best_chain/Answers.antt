@@ -1,11 +1,10 @@
 -- The requests as nodes, the rows as links between them, and the search.
 use mathlib.Core.Path.{◌≡◌, ap, ◌∙◌}
 use mathlib.Core.List.{List}
-use Prim.Native.Nat.{ℕ, ◌+◌, ◌≤◌}
+use Prim.Native.Nat.{min, ℕ, ◌+◌, ◌≤◌}
 use native.Mathlib.Omega.{arith}
 use lib.ListN.{get_or}
 use Rattle.definition.specs.Numbers.{cache_limit, count_cache, count_ties, count_subtypes}
-use Rattle.constraints.specs.Agreement.{at_most}
 use Rattle.constraints.specs.Walks.{InRange, Sole}
 use Rattle.constraints.proofs.Linked.{in-range, sole}
 use Rattle.constraints.proofs.Finding.{at-most-low, held-reason}
@@ -36,14 +35,14 @@ module _ (c : After-label_links) where
   abbrev labels : List ℕ
   labels = c.label_links.new.labels
 
-  cached-is : cached ≡ at_most cache_limit (get_or counts count_cache 0)
-  cached-is = c.at_most-cached.ensures.0 ∙ ap (at_most cache_limit) c.at.ensures
+  cached-is : cached ≡ min (get_or counts count_cache 0) cache_limit
+  cached-is = c.at_most-cached.ensures.0 ∙ ap (λ (x : ℕ). min x cache_limit) c.at.ensures
 
-  tied_is : tied ≡ at_most cache_limit (get_or counts count_ties 0)
-  tied_is = c.at_most-tied.ensures.0 ∙ ap (at_most cache_limit) c.at-2.ensures
+  tied_is : tied ≡ min (get_or counts count_ties 0) cache_limit
+  tied_is = c.at_most-tied.ensures.0 ∙ ap (λ (x : ℕ). min x cache_limit) c.at-2.ensures
 
-  noted-is : noted ≡ at_most cache_limit (get_or counts count_subtypes 0)
-  noted-is = c.at_most-noted.ensures.0 ∙ ap (at_most cache_limit) c.at-3.ensures
+  noted-is : noted ≡ min (get_or counts count_subtypes 0) cache_limit
+  noted-is = c.at_most-noted.ensures.0 ∙ ap (λ (x : ℕ). min x cache_limit) c.at-3.ensures
 
   range : (count : ℕ) → count ≤ tied + tied + noted → InRange froms tos count
   range = in-range c.link_nodes.ensures c.number_nodes.ensures c.at_most-cached.ensures.1 c.at_most-noted.ensures.1 c.at_most-tied.ensures.1

@@ -8,8 +8,5 @@ use Rattle.verifier.proofs.classes.verify_class.Given as goal
 
 abbrev pub invariant-loop-j : goal.invariant-loop-j
 invariant-loop-j l =
-    (l.j ≤ l.n) × (length l.subtypes ≡ length l.initial.subtypes)
-    × (posting l.loader (methods_trace (file_version l.bytes) (class_name l.bytes) (methods_from l.bytes l.j)) (noted l.subtypes l.total) ≡ posting l.loader (class_trace l.bytes) (noted l.initial.subtypes l.count))
-
-abbrev pub decreases-loop-j : goal.decreases-loop-j
-decreases-loop-j l = l.n - l.j
+    posting l.loader (methods_trace (file_version l.bytes) (class_name l.bytes) (methods_from l.bytes l.j)) (noted l.subtypes l.total)
+    ≡ posting l.loader (class_trace l.bytes) (noted l.initial.subtypes l.count)

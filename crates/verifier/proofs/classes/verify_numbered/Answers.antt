@@ -10,7 +10,7 @@ returns-in_default c = absurd (never-absent _ _ c.requires _ c.method_place.ensu
 pub returns : goal.returns
 returns c =
     posting-same _ _ _ _ _
-    (sym (trace-found _ _ _ _ _ _ _ _ (found_at _ _ c.requires _ c.method_place.ensures _ _ c.in-At.is)
+    (sym (trace-found _ _ _ _ _ _ _ _ (found_at _ _ c.requires _ c.method_place.ensures _ c.in-Some.is)
     c.version-version.ensures c.class_name-own.ensures c.method_signature-s.ensures
     c.code.ensures c.method_maps.ensures))
     c.verify_method.ensures

@@ -12,20 +12,18 @@ abbrev accepts : Trace → Bool
 accepts w = w.accepts
 
 pub loop-i-init : goal.loop-i-init
-loop-i-init c = (omega arith, ap accepts (values-start _ _ _ _ c.argument_count-n.ensures))
+loop-i-init c = ap accepts (values-start _ _ _ _ c.argument_count-i-end.ensures)
 
 pub returns-then-not-met : goal.returns-then-not-met
 returns-then-not-met c =
     sym (ap accepts (places-unmet _ _ _ c.loop-i-test.true (sym c.meet_value.ensures ∙ unmet-notes _ (sym c.met.ensures ∙ c.if-not-met.true))))
-    ∙ c.loop-i.invariant.1
+    ∙ c.loop-i.invariant
 
 pub loop-i-preserved : goal.loop-i-preserved
 unfolding after
-loop-i-preserved c = (
-  omega arith,
-  sym (ap accepts (places-met _ _ _ c.loop-i-test.true _ (sym c.meet_value.ensures ∙ met-notes _ (sym c.met.ensures ∙ c.if-not-met.false))))
-      ∙ c.loop-i.invariant.1,
-)
+loop-i-preserved c =
+    sym (ap accepts (places-met _ _ _ c.loop-i-test.true _ (sym c.meet_value.ensures ∙ met-notes _ (sym c.met.ensures ∙ c.if-not-met.false))))
+    ∙ c.loop-i.invariant
 
 pub returns : goal.returns
-returns c = sym (ap accepts (places-end _ _ _ c.loop-i-test.false)) ∙ c.loop-i.invariant.1
+returns c = sym (ap accepts (places-end _ _ _ c.loop-i-test.false)) ∙ c.loop-i.invariant

@@ -10,9 +10,3 @@ use Rattle.verifier.proofs.effects.branch.Goals as goal
 pub returns-in-Always : goal.returns-in-Always
 unfolding outcome_of going effect types_of ◌>>=◌ notes_in values_trace meet_from
 returns-in-Always c p = rw c.in-Always.is
-
-pub returns-in-IfZero : goal.returns-in-IfZero
-returns-in-IfZero c p = rw c.in-IfZero.is (c.compared_with_zero.ensures p)
-
-pub returns-in-IfLess : goal.returns-in-IfLess
-returns-in-IfLess c p = rw c.in-IfLess.is (c.compared.ensures p)

@@ -4,6 +4,7 @@ use Rattle.definition.specs.Verifier.{effect}
 use Rattle.verifier.specs.Types.{types_of}
 use Rattle.verifier.proofs.TypeLaws.{type-name}
 use Rattle.definition.specs.Maybe.{◌>>=◌, need}
+use native.Mathlib.Omega.{arith}
 use Rattle.verifier.specs.Effects.{notes_in, going}
 use Rattle.verifier.specs.Trace.{meet_from, values_trace}
 use Rattle.verifier.specs.Answers.{outcome_of}
@@ -19,6 +20,6 @@ returns c =
     rw (
       c.push.ensures,
       le-leb 2 c.args.c c.if-c-lt-NAME_OBJECT.false,
-      type-name _ c.from.ensures.1,
+      type-name c.from.result (omega (arith, c.from.ensures)),
       c.from.ensures,
     )

@@ -7,8 +7,7 @@ use Rattle.verifier.specs.Types.{operand_at}
 use Rattle.verifier.proofs.flows.mapped_operands.Given as goal
 
 abbrev pub invariant-loop-i : goal.invariant-loop-i
-invariant-loop-i l =
-    (l.i ≤ l.n) × (length l.operands ≡ 16) × ((j : ℕ) → j < l.i → operand_at l.operands j ≡ type_of_name (type_at l.maps (l.place + 19) j))
-
-abbrev pub decreases-loop-i : goal.decreases-loop-i
-decreases-loop-i l = l.n - l.i
+invariant-loop-i l = record {
+  full : length l.operands ≡ 16;
+  set : (j : ℕ) → j < l.i → operand_at l.operands j ≡ type_of_name (type_at l.maps (l.place + 19) j);
+}

@@ -6,18 +6,15 @@ use Rattle.verifier.proofs.FlowLaws.{meet-start, meet-end, meet-unmet, meet-met}
 use Rattle.verifier.proofs.flows.meet_part.Goals as goal
 
 pub loop-i-init : goal.loop-i-init
-loop-i-init c = (omega arith, refl, meet-start _ _ _ _)
+loop-i-init c = meet-start _ _ _ _
 
 pub returns-then-not-met : goal.returns-then-not-met
-returns-then-not-met c = rw (c.unmet.ensures.0, c.unmet.ensures.1) (sym (meet-unmet _ _ _ _ _ c.loop-i-test.true (sym c.meet_place-m.ensures ∙ unmet-notes _ (sym c.met.ensures ∙ c.if-not-met.true))) ∙ c.loop-i.invariant.2)
+returns-then-not-met c = sym (meet-unmet _ _ _ _ _ c.loop-i-test.true (sym c.meet_place-m.ensures ∙ unmet-notes _ (sym c.met.ensures ∙ c.if-not-met.true))) ∙ c.loop-i.invariant
 
 pub loop-i-preserved : goal.loop-i-preserved
-loop-i-preserved c = (
-  omega arith,
-  c.post_flow-posted.auto.subtypes ∙ c.loop-i.invariant.1,
-  rw c.post_flow-posted.ensures
-      (sym (meet-met _ _ _ _ _ c.loop-i-test.true _ (sym c.meet_place-m.ensures ∙ met-notes _ (sym c.met.ensures ∙ c.if-not-met.false))) ∙ c.loop-i.invariant.2),
-)
+loop-i-preserved c =
+    rw c.post_flow-posted.ensures
+    (sym (meet-met _ _ _ _ _ c.loop-i-test.true _ (sym c.meet_place-m.ensures ∙ met-notes _ (sym c.met.ensures ∙ c.if-not-met.false))) ∙ c.loop-i.invariant)
 
 pub returns : goal.returns
-returns c = sym (meet-end _ _ _ _ _ c.loop-i-test.false) ∙ c.loop-i.invariant.2
+returns c = sym (meet-end _ _ _ _ _ c.loop-i-test.false) ∙ c.loop-i.invariant

@@ -1,18 +1,15 @@
 -- The target is looked up where there is one.
-use mathlib.Core.Path.{sym, ap, ◌∙◌}
+use mathlib.Core.Path.{sym, ◌∙◌}
 use Rattle.definition.specs.Lists.{any, to_list}
-use Rattle.verifier.specs.Lookups.{target_of}
+use Rattle.cells.specs.Optional.{optional-none, optional-some}
 use Rattle.verifier.proofs.LookupLaws.{any-one}
 use Rattle.verifier.proofs.lookups.is_target_bare.Goals as goal
 
-pub returns-in-To : goal.returns-in-To
-unfolding target_of to_list
-returns-in-To c =
-    let t = sym c.target_of-t.ensures ∙ ap target_of c.in-To.is in
-    rw t (any-one _ _ _ (rw c.from.ensures at c.is_bare.ensures))
+pub returns-in-Some : goal.returns-in-Some
+unfolding to_list
+returns-in-Some c =
+    rw (optional-some _ _ (sym c.target_of.ensures ∙ c.in-Some.is)) (any-one _ _ _ (rw c.from.ensures at c.is_bare.ensures))
 
-pub returns-in-Nowhere : goal.returns-in-Nowhere
-unfolding target_of any to_list
-returns-in-Nowhere c =
-    let t = sym c.target_of-t.ensures ∙ ap target_of c.in-Nowhere.is in
-    rw t
+pub returns-in-None : goal.returns-in-None
+unfolding any to_list
+returns-in-None c = rw (optional-none _ (sym c.target_of.ensures ∙ c.in-None.is))

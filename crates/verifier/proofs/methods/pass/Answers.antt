@@ -19,9 +19,6 @@ pub returns-then-map_count-i : goal.returns-then-map_count-i
 unfolding Passes
 returns-then-map_count-i c = λ v b a r. (pass-none v b a r _ _ _ (omega (arith, c.map_count.ensures, c.if-map_count-i.true)), c.requires)
 
-pub overflow_add-result-then-offset-p : goal.overflow_add-result-then-offset-p
-overflow_add-result-then-offset-p c = omega (arith, c.requires.1, c.map_size.ensures.1)
-
 pub returns-then-offset-p : goal.returns-then-offset-p
 unfolding Passes
 returns-then-offset-p c =

@@ -4,9 +4,3 @@ use Rattle.verifier.proofs.methods.verify_method.Goals as goal
 
 pub verify_code-requires : goal.verify_code-requires
 verify_code-requires c = indexed-nowhere _
-
-pub returns-then-map_count-eq0 : goal.returns-then-map_count-eq0
-returns-then-map_count-eq0 c = c.verify_code.ensures
-
-pub returns : goal.returns
-returns c = c.verify_code-2.ensures

@@ -9,7 +9,7 @@ use Rattle.verifier.proofs.methods.walk.Given as goal
 
 abbrev pub invariant-loop-left : goal.invariant-loop-left
 invariant-loop-left l =
-    PlaceOf l.maps l.i l.place × (length l.subtypes ≡ length l.initial.subtypes)
+    PlaceOf l.maps l.i l.place
     × (posting l.loader (trace l.version l.code (maps_of l.maps) l.res l.left l.p (left_from l.maps l.i) (types_of l.types)) (noted l.subtypes l.total)
     ≡ posting l.loader (trace l.version l.code (maps_of l.maps) l.res (length l.code) 0 (maps_of l.maps) (types_of l.initial.types)) (noted l.initial.subtypes l.count))
 

@@ -5,7 +5,3 @@ use Rattle.verifier.proofs.places.check_code.Goals as goal
 pub returns-in-Maps : goal.returns-in-Maps
 unfolding check_point
 returns-in-Maps c = rw c.in-Maps.is c.lack_of.ensures
-
-pub returns-in-Types : goal.returns-in-Types
-unfolding check_point
-returns-in-Types c = rw c.in-Types.is c.stop_of.ensures

@@ -4,9 +4,3 @@ use Rattle.verifier.proofs.places.check_method.Goals as goal
 
 pub check_code-requires : goal.check_code-requires
 check_code-requires c = indexed-nowhere _
-
-pub returns-then-map_count-eq0 : goal.returns-then-map_count-eq0
-returns-then-map_count-eq0 c = c.check_code.ensures
-
-pub returns : goal.returns
-returns c = c.check_code-2.ensures

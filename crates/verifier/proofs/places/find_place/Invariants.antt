@@ -7,8 +7,5 @@ use Rattle.verifier.proofs.places.find_place.Given as goal
 
 abbrev pub invariant-loop-j : goal.invariant-loop-j
 invariant-loop-j l =
-    (l.n ≡ method_count l.bytes)
-    × (first_place (check_in l.check (file_version l.bytes) (class_name l.bytes)) l.j (methods_from l.bytes l.j) ≡ first_place (check_in l.check (file_version l.bytes) (class_name l.bytes)) 0 (quick_methods l.bytes))
-
-abbrev pub decreases-loop-j : goal.decreases-loop-j
-decreases-loop-j l = l.n - l.j
+    first_place (check_in l.check (file_version l.bytes) (class_name l.bytes)) l.j (methods_from l.bytes l.j)
+    ≡ first_place (check_in l.check (file_version l.bytes) (class_name l.bytes)) 0 (quick_methods l.bytes)

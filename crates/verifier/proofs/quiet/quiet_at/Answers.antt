@@ -1,30 +1,32 @@
 -- An instruction that goes on to a point without a map, by its effect.
-use mathlib.Core.Path.{◌≡◌, refl}
+use mathlib.Core.Path.{◌≡◌, refl, sym, ◌∙◌}
 use native.Mathlib.Omega.{arith}
 use lib.ListN.{length}
 use Rattle.verifier.proofs.DecodingLaws.{at-within}
 use Rattle.verifier.proofs.TurnLaws.{turned-at}
-use Rattle.verifier.proofs.QuietLaws.{loud-turn, quiet-turn}
+use Rattle.verifier.proofs.QuietLaws.{loud-turn, targetless, quiet-turn}
 use borrow.Author.Rules.{rules}
 use Rattle.verifier.proofs.quiet.quiet_at.Goals as goal
 
 pub returns-then-not-may_be_quiet : goal.returns-then-not-may_be_quiet
 returns-then-not-may_be_quiet c = loud-turn _ _ _ refl
 
-pub returns-in_default : goal.returns-in_default
-returns-in_default c = loud-turn _ _ _ refl
+pub returns-in_err-read : goal.returns-in_err-read
+returns-in_err-read c = loud-turn _ _ _ c.from_residual.ensures
 
 pub returns-then-not-goes_on : goal.returns-then-not-goes_on
 returns-then-not-goes_on c = loud-turn _ _ _ refl
 
-pub returns-in_default-target_of : goal.returns-in_default-target_of
-returns-in_default-target_of c = loud-turn _ _ _ refl
-
 pub overflow_add-q : goal.overflow_add-q
-overflow_add-q c = omega (arith, at-within _ _ _ _ c.decode.ensures _ _ c.in-At.is)
+overflow_add-q c = omega (arith, at-within _ _ _ _ c.decode.ensures _ c.in_ok-read.was)
 
 pub returns-then-find_map-ne0 : goal.returns-then-find_map-ne0
 returns-then-find_map-ne0 c = loud-turn _ _ _ refl
 
 pub returns : goal.returns
-returns c = quiet-turn _ _ _ _ c.find_map.ensures c.if-find_map-ne0.false _ _ c.target_of.ensures c.in-Nowhere.is _ c.goes_on.ensures c.if-not-goes_on.false _ _ _ _ (turned-at _ _ _ _ _ _ _ c.decode.ensures _ _ c.in-At.is _ c.effect_of.ensures _ refl) (c.quiet_of.ensures _ ((let it : length c.args.types.operands ≡ 16 = search rules in it)) ((let it : length c.args.types.locals ≡ 8 = search rules in it)))
+returns c =
+    let operands : length c.args.types.operands ≡ 16 = search rules in
+    let locals : length c.args.types.locals ≡ 8 = search rules in
+    let nowhere = targetless _ _ c.target_of.ensures (sym c.is_some.ensures ∙ c.if-is_some.false) in
+    quiet-turn _ _ _ _ c.find_map.ensures c.if-find_map-ne0.false _ nowhere _ c.goes_on.ensures c.if-not-goes_on.false _ _ _ _
+    (turned-at _ _ _ _ _ _ _ c.decode.ensures _ c.in_ok-read.was _ c.effect_of.ensures _ refl) (c.quiet_of.ensures _ operands locals)

@@ -1,23 +1,23 @@
 -- Nothing flows where there is no target; else the target has a map, and it is met.
-use mathlib.Core.Path.{refl}
+use mathlib.Core.Path.{refl, sym, ◌∙◌}
 use Rattle.rows.specs.Posting.{post_notes}
-use Rattle.verifier.specs.Lookups.{target_of}
+use Rattle.cells.specs.Optional.{optional-none, optional-some}
 use Rattle.verifier.specs.Trace.{target_trace, posting}
 use Rattle.verifier.proofs.PostingLaws.{posting-same}
 use Rattle.verifier.proofs.TurnLaws.{target-bare, target-mapped}
 use Rattle.verifier.proofs.turns.flow_to_target.Goals as goal
 
+pub returns-in_default : goal.returns-in_default
+unfolding target_trace posting post_notes
+returns-in_default c = λ n. rw (optional-none _ (sym c.target_of.ensures ∙ c.in_default.is)) refl
+
 pub returns-then-place-eq0 : goal.returns-then-place-eq0
 unfolding posting post_notes
 returns-then-place-eq0 c =
-    λ n. rw (c.unmet.ensures.0, c.unmet.ensures.1, target-bare _ n _ _ c.find_map-place.ensures c.if-place-eq0.true _ _ _ c.in-To.is c.from.ensures) refl
+    λ n. rw (target-bare _ n _ _ c.find_map-place.ensures c.if-place-eq0.true _ _ _ (optional-some _ _ (sym c.target_of.ensures ∙ c.in-Some.is)) c.from.ensures) refl
 
-pub returns-in-Nowhere : goal.returns-in-Nowhere
-unfolding target_of target_trace posting post_notes
-returns-in-Nowhere c = λ n. rw c.in-Nowhere.is refl
-
-pub returns-else-place-eq0 : goal.returns-else-place-eq0
-returns-else-place-eq0 c =
+pub returns : goal.returns
+returns c =
     λ n. posting-same _ _ _ _ _
-    (target-mapped _ n _ _ c.find_map-place.ensures c.if-place-eq0.false _ _ _ c.in-To.is c.from.ensures)
+    (target-mapped _ n _ _ c.find_map-place.ensures c.if-place-eq0.false _ _ _ (optional-some _ _ (sym c.target_of.ensures ∙ c.in-Some.is)) c.from.ensures)
     c.meet_map.ensures

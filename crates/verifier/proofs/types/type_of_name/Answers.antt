@@ -10,6 +10,6 @@ returns-then-n-eq1 c = (type-int _ refl ∙ sym (name-int _ c.if-n-eq1.true), om
 
 pub returns-else-n-eq1 : goal.returns-else-n-eq1
 returns-else-n-eq1 c = (
-  type-name _ c.from.ensures.1 ∙ (ap type_class c.from.ensures ∙ sym (name-class _ c.if-n-eq1.false)),
-  omega (arith, c.from.ensures.1),
+  type-name _ (omega (arith, c.from.ensures)) ∙ (ap type_class c.from.ensures ∙ sym (name-class _ c.if-n-eq1.false)),
+  omega (arith, c.from.ensures),
 )

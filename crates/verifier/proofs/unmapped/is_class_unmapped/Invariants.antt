@@ -6,7 +6,5 @@ use Rattle.verifier.specs.Lookups.{unmapped_in}
 use Rattle.verifier.proofs.unmapped.is_class_unmapped.Given as goal
 
 abbrev pub invariant-loop-j : goal.invariant-loop-j
-invariant-loop-j l = (l.n ≡ method_count l.bytes) × (any (unmapped_in (file_version l.bytes)) (rows (method_in l.bytes) (l.n - l.j) l.j) ≡ any (unmapped_in (file_version l.bytes)) (quick_methods l.bytes))
-
-abbrev pub decreases-loop-j : goal.decreases-loop-j
-decreases-loop-j l = l.n - l.j
+invariant-loop-j l =
+    any (unmapped_in (file_version l.bytes)) (rows (method_in l.bytes) (l.j-end - l.j) l.j) ≡ any (unmapped_in (file_version l.bytes)) (quick_methods l.bytes)

@@ -10,7 +10,7 @@ returns-in_default c =
 pub returns : goal.returns
 returns c =
     unmapped-found _ _ _ _ _ _ _
-    (found_at _ _ c.requires _ c.method_place.ensures _ _ c.in-At.is)
+    (found_at _ _ c.requires _ c.method_place.ensures _ c.in-Some.is)
     c.version-version.ensures
     c.code.ensures
     c.method_maps.ensures

@@ -1,16 +1,15 @@
--- Version 1 has no maps; where a later version has none, no table is made.
-use borrow.Author.Tests.{le-leb, lt-leb}
+-- A method is unmapped where it lacks a map at some point; where it has no maps, no table is made.
+use mathlib.Core.Path.{ap, ◌∙◌}
+use Rattle.std.specs.Option.{is_some}
 use Rattle.verifier.proofs.LookupLaws.{indexed-nowhere}
+use Rattle.verifier.proofs.StopLaws.{lacks-unmapped}
 use Rattle.verifier.proofs.unmapped.is_unmapped.Goals as goal
 
-pub returns-then-version-lt-VERSION_TWO : goal.returns-then-version-lt-VERSION_TWO
-returns-then-version-lt-VERSION_TWO c result = rw (lt-leb _ _ c.if-version-lt-VERSION_TWO.true)
-
-pub is_code_unmapped-requires : goal.is_code_unmapped-requires
-is_code_unmapped-requires c = indexed-nowhere _
+pub lack_of-requires : goal.lack_of-requires
+lack_of-requires c = indexed-nowhere _
 
 pub returns-then-map_count-eq0 : goal.returns-then-map_count-eq0
-returns-then-map_count-eq0 c result = rw (le-leb _ _ c.if-version-lt-VERSION_TWO.false) (c.is_code_unmapped.ensures result)
+returns-then-map_count-eq0 c given = c.is_some.ensures ∙ ap is_some c.lack_of.ensures ∙ lacks-unmapped _ _ _ given
 
 pub returns : goal.returns
-returns c result = rw (le-leb _ _ c.if-version-lt-VERSION_TWO.false) (c.is_code_unmapped-2.ensures result)
+returns c given = c.is_some-2.ensures ∙ ap is_some c.lack_of-2.ensures ∙ lacks-unmapped _ _ _ given

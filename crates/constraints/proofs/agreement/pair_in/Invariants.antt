@@ -1,0 +1,16 @@
+-- The next place that is to be looked at is one of the span, and each before it is fine.
+use Rattle.std.proofs.Common.{◌≡◌, ℕ, ◌-◌, ◌<◌, ◌≤◌, Some}
+use Rattle.constraints.specs.Agreement.{super_in}
+use Rattle.constraints.specs.Looking.{lead_of}
+use Rattle.constraints.specs.Pairs.{ToMeet, PairFine, reach}
+use Rattle.constraints.proofs.agreement.pair_in.Given as goal
+
+abbrev pub invariant-loop-next : goal.invariant-loop-next
+invariant-loop-next l = record {
+  fits : (b : ℕ) → l.next ≡ Some b → (l.span.from ≤ b) × (b < l.span.end);
+  fine : (p : ℕ) → p < reach l.span.end l.next → l.span.from ≤ p → ToMeet l.span.who l.groups l.outs l.stamp p
+      → PairFine (super_in l.supers) l.groups l.classes l.outs l.ins l.aboves l.stamp (lead_of l.turn l.groups l.a p) p;
+}
+
+abbrev pub decreases-loop-next : goal.decreases-loop-next
+decreases-loop-next l = l.span.end - reach l.span.end l.next
