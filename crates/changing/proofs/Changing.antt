@@ -1,18 +1,17 @@
 -- What the changeover leaves, and the lengths that let it fill.
-use mathlib.Core.Path.{◌≡◌, refl, sym, ap, ◌∙◌}
-use mathlib.Core.Bool.{Bool, true, false, not}
+use mathlib.Core.Path.{◌≡◌, sym, ap, ◌∙◌}
+use mathlib.Core.Bool.{true, false}
 use mathlib.Core.List.{List}
 use mathlib.Core.Logic.{◌⊎◌, inl, inr}
 use Prim.Native.Nat.{ℕ}
-use lib.ListN.{length}
-use borrow.Author.Tests.{not-false, not-true}
+use borrow.Author.Tests.{not-false}
 use Rattle.definition.specs.declared.Refusal.TheVariants.{Word}
 use Rattle.definition.specs.declared.Reply.TheVariants.{Accepted, Denied}
 use Rattle.definition.specs.Numbers.{word_broken}
 use Rattle.definition.specs.Tables.{Tables, shaped}
 use Rattle.definition.specs.Calls.{done}
 use Rattle.definition.specs.Changeover.{with_counts, carry, changeover}
-use Rattle.definition.specs.First.Tables.{FirstTables, first_shaped}
+use Rattle.definition.specs.First.Tables.{FirstTables}
 use Rattle.definition.specs.First.Broken.{first_whole, first_broken}
 use Rattle.layout.specs.Tests.{every_true}
 use Rattle.layout.specs.ReadBack.{Lengths, shaped-true}

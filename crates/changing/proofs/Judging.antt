@@ -1,17 +1,16 @@
 -- How old tables are judged: by lengths and counts that would leave no room for their rows' numbers, by today's test of the tables that would be filled, and by versions.
 use mathlib.Core.Path.{◌≡◌, refl, sym, ap, subst, ◌∙◌}
-use mathlib.Core.Bool.{Bool, true, false, not, ◌&&◌, false≢true}
+use mathlib.Core.Bool.{Bool, true, false, false≢true}
 use mathlib.Core.List.{List}
 use Prim.Native.Nat.{ℕ, ◌<◌, ◌≤◌}
 use native.Mathlib.Omega.{arith}
 use lib.ListN.{length, get_or}
-use lib.Dec.{leb}
 use borrow.Author.Tests.{le-leb, not-false}
 use Rattle.definition.specs.Numbers.{count_ties, owners_cell, tie_limit, counts_length}
 use Rattle.definition.specs.Lists.{rows, all}
 use Rattle.definition.specs.Tables.{Tables, tie_at, ties_of, view, view_over}
 use Rattle.definition.specs.Broken.{tie_fits, sound, whole, broken}
-use Rattle.definition.specs.Changeover.{with_counts, carry}
+use Rattle.definition.specs.Changeover.{with_counts}
 use Rattle.definition.specs.First.Tables.{FirstTables, first_view, first_view_over}
 use Rattle.definition.specs.First.Broken.{first_sound, first_whole, first_broken}
 use Rattle.layout.specs.Tests.{every_true}

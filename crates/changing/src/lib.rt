@@ -96,7 +96,7 @@ pub fn change_over(
         old_frames,
     ) else {
         return Reply::Denied(Refusal::Word(WORD_BROKEN));
-    }
+    };
     fill(
         &carried,
         old_classes,

@@ -1,7 +1,6 @@
 -- Lengths, the count of ties, today's test of what would be filled, and the versions.
-use mathlib.Core.Path.{◌≡◌, sym, ◌∙◌}
+use mathlib.Core.Path.{sym, ◌∙◌}
 use native.Mathlib.Omega.{arith}
-use borrow.Author.Rules.{rules}
 use Rattle.first.specs.Carries.{keeps_later}
 use Rattle.changing.proofs.Judging.{other_length, many-ties, told-broken, told-later, told-judged}
 use Rattle.changing.proofs.Cells.{blank}

@@ -1,15 +1,11 @@
 -- Before cell i is written, the first i cells are those of the list, and all from the loads on are 0.
-use Prim.Native.Nat.{ℕ, ◌-◌, ◌≤◌}
-use mathlib.Core.Path.{◌≡◌, sym, ◌∙◌}
+use mathlib.Core.Path.{sym, ◌∙◌}
 use native.Mathlib.Omega.{arith}
-use lib.ListN.{get_or}
-use Rattle.definition.specs.Numbers.{loads_cell, counts_length}
-use Rattle.definition.specs.Lists.{rows}
+use Rattle.definition.specs.Numbers.{counts_length}
 use Rattle.layout.specs.Places.{rows-length}
 use Rattle.changing.specs.Cells.{cell_of}
-use Rattle.changing.proofs.Copies.{Copying, copying-start, copying-cell}
+use Rattle.changing.proofs.Copies.{copying-start, copying-cell}
 use Rattle.changing.proofs.Cells.{listed_at, behind-set, listed-whole}
-use borrow.Author.Rules.{rules}
 use Rattle.changing.proofs.counts.list_cells.Goals as goal
 
 pub loop-i-init : goal.loop-i-init

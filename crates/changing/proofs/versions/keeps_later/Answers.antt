@@ -1,13 +1,8 @@
 -- Before class c is looked at, one of those from c on is of a later version exactly if one of all is.
-use mathlib.Core.Path.{◌≡◌, ap, sym, ◌∙◌}
-use Prim.Native.Nat.{◌-◌, ◌≤◌}
-use native.Mathlib.Omega.{arith}
-use lib.ListN.{get_or}
-use Rattle.definition.specs.Lists.{any, rows}
-use Rattle.definition.specs.Tables.{class_row_at}
+use mathlib.Core.Path.{ap, sym, ◌∙◌}
+use Rattle.definition.specs.Lists.{any}
 use Rattle.layout.specs.Places.{rows_start, any-hit, any-on, any-end}
 use Rattle.first.specs.SameBases.{later_row}
-use borrow.Author.Rules.{rules}
 use Rattle.changing.proofs.versions.keeps_later.Goals as goal
 
 pub loop-c-init : goal.loop-c-init

@@ -1,12 +1,9 @@
-use mathlib.Core.Path.{◌≡◌, ap, sym, ◌∙◌}
-use Prim.Native.Nat.{◌-◌, ◌≤◌}
-use native.Mathlib.Omega.{arith}
+use mathlib.Core.Path.{◌≡◌}
+use Prim.Native.Nat.{◌-◌}
 use lib.ListN.{get_or}
 use Rattle.definition.specs.Lists.{any, rows}
 use Rattle.definition.specs.Tables.{class_row_at}
-use Rattle.layout.specs.Places.{rows_start, any-hit, any-on, any-end}
 use Rattle.first.specs.SameBases.{later_row}
-use borrow.Author.Rules.{rules}
 use Rattle.changing.proofs.versions.keeps_later.Given as goal
 
 abbrev pub invariant-loop-c : goal.invariant-loop-c
