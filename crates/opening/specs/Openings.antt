@@ -19,23 +19,34 @@ use Rattle.frames.specs.Made.{made_in, used_share, made-by-is, share-used-is}
 use Rattle.resolution.specs.Quick.{quick_base}
 use Rattle.access.specs.Accesses.{world_in}
 use Rattle.access.specs.Makings.{room-left}
-pub use Rattle.opening.specs.declared.Opening.{Opening}
-pub use Rattle.opening.specs.declared.Opening.TheVariants.{Deny, First}
+use Rattle.std.specs.Prelude as Rust
+use Rattle.definition.specs.declared.Refusal.{Refusal}
+use Rattle.opening.specs.declared.Opening.{Opening}
+
+-- a refusal, or what a start makes: an object of class c with number o and a first frame in method j of class s
+abbrev pub Answered : Type 0
+Answered = Rust.Result Opening Refusal
+
+abbrev pub deny : Refusal → Answered
+deny r = Rust.Err r
+
+abbrev pub first : ℕ → ℕ → ℕ → ℕ → Answered
+first c s j o = Rust.Ok (record { class = c; method = record { class = s; place = j }; object = o })
 
 -- an answer's meaning for task k: a refusal, or an object of class c with number o and a first frame in method j of class s
-unfoldable pub opened_as : ℕ → World → Objects → ℕ → Opening → Result Progress
-opened_as k w os v (Deny r) = refused r
-opened_as k w os v (First c s j o) =
-    ok (record { world = w; objects = made k (new_object w.base c) os; frames = entry_frame s j o (int_value v ∷ []) ∷ []; result = none })
+unfoldable pub opened_as : ℕ → World → Objects → ℕ → Answered → Result Progress
+opened_as k w os v (Rust.Err r) = refused r
+opened_as k w os v (Rust.Ok a) =
+    ok (record { world = w; objects = made k (new_object w.base a.class) os; frames = entry_frame a.method.class a.method.place a.object (int_value v ∷ []) ∷ []; result = none })
 
 -- what carrying it out asks: the number is the lowest unused
-abbrev pub OpeningFits : List ℕ → Base → ℕ → ℕ → ℕ → Opening → Type 0
-OpeningFits N B k l n (Deny r) = Unit {0}
-OpeningFits N B k l n (First c s j o) = (k < 2) × (o ≡ unused_from N 0) × (o < 256) × (find B.cache (at l n) ≡ some c)
+abbrev pub OpeningFits : List ℕ → Base → ℕ → ℕ → ℕ → Answered → Type 0
+OpeningFits N B k l n (Rust.Err r) = Unit {0}
+OpeningFits N B k l n (Rust.Ok a) = (k < 2) × (a.object ≡ unused_from N 0) × (a.object < 256) × (find B.cache (at l n) ≡ some a.class)
 
 -- The answer r is right for a start of task k in method m of class n under loader l, whatever constraints, objects and frames there are
 
-pub record Opened (N L K E : List ℕ) (k l n m : ℕ) (r : Opening) : Type 0 where
+pub record Opened (N L K E : List ℕ) (k l n m : ℕ) (r : Answered) : Type 0 where
   pub says : (I S O F : List ℕ) (v : ℕ)
       → (let B = quick_base N L K E in let t = tables N L K E I S O F in
       opened_as k (world_in B t) (objects_of B t) v r
@@ -55,17 +66,17 @@ module _ (N L K E : List ℕ) (k l n m : ℕ) where
   abbrev B : Base
   B = quick_base N L K E
 
-  pub open-no-task : 2 ≤ k → Opened N L K E k l n m (Deny (Word 3))
+  pub open-no-task : 2 ≤ k → Opened N L K E k l n m (deny (Word 3))
   unfolding opened_as need ◌>>=◌
   open-no-task h = record { says = λ I S O F v. rw (le-ltb k 2 h); fits = tt }
 
   module _ (two : k < 2) where
-    pub open_unknown : (ltb l 16 && leb 2 n && leb 1 m) ≡ false → Opened N L K E k l n m (Deny (Word 3))
+    pub open_unknown : (ltb l 16 && leb 2 n && leb 1 m) ≡ false → Opened N L K E k l n m (deny (Word 3))
     unfolding opened_as need ◌>>=◌ started
     open_unknown h = record { says = λ I S O F v. rw (lt-ltb k 2 two, h); fits = tt }
 
     module _ (known : (ltb l 16 && leb 2 n && leb 1 m) ≡ true) where
-      pub open-busy : get_or N (6 + k) 0 ≢ 0 → Opened N L K E k l n m (Deny (Word 12))
+      pub open-busy : get_or N (6 + k) 0 ≢ 0 → Opened N L K E k l n m (deny (Word 12))
       unfolding opened_as need ◌>>=◌ started
       open-busy h = record {
         says = λ I S O F v. rw (lt-ltb k 2 two, known, frames-count B (tables N L K E I S O F) k two, lt-leb (get_or N (6 + k) 0) 0 (omega arith));
@@ -73,12 +84,12 @@ module _ (N L K E : List ℕ) (k l n m : ℕ) where
       }
 
       module _ (free : get_or N (6 + k) 0 ≡ 0) where
-        pub open-wanted : find B.cache (at l n) ≡ none → Opened N L K E k l n m (Deny (Wanted l n))
+        pub open-wanted : find B.cache (at l n) ≡ none → Opened N L K E k l n m (deny (Wanted l n))
         unfolding opened_as need ◌>>=◌ take? started
         open-wanted h = record { says = λ I S O F v. rw (lt-ltb k 2 two, known, frames-count B (tables N L K E I S O F) k two, free, h); fits = tt }
 
         module _ (c : ℕ) (there : find B.cache (at l n) ≡ some c) where
-          pub open-absent : selected B (start_signature m) c ≡ none → Opened N L K E k l n m (Deny (Word 7))
+          pub open-absent : selected B (start_signature m) c ≡ none → Opened N L K E k l n m (deny (Word 7))
           unfolding opened_as need ◌>>=◌ take? started
           open-absent h = record { says = λ I S O F v. rw (lt-ltb k 2 two, known, frames-count B (tables N L K E I S O F) k two, free, there, h); fits = tt }
 
@@ -87,7 +98,7 @@ module _ (N L K E : List ℕ) (k l n m : ℕ) where
               share : (I S O F : List ℕ) → share_used k (objects_of B (tables N L K E I S O F)) ≡ used_share k number
               share I S O F = let t = tables N L K E I S O F in sym (share-used-is k number (objects_of B t) (λ _. counted ∙ made-by-is B t k))
 
-              pub open-share-used : used_share k number ≡ true → Opened N L K E k l n m (Deny (Word 18))
+              pub open-share-used : used_share k number ≡ true → Opened N L K E k l n m (deny (Word 18))
               unfolding opened_as need ◌>>=◌ take? started
               open-share-used h = record {
                 says = λ I S O F v. rw (lt-ltb k 2 two, known, frames-count B (tables N L K E I S O F) k two, free, there, selects, share I S O F ∙ h);
@@ -98,7 +109,7 @@ module _ (N L K E : List ℕ) (k l n m : ℕ) where
                 is-unused : (I S O F : List ℕ) → o ≡ unused (objects_of B (tables N L K E I S O F))
                 is-unused I S O F = lowest ∙ unused-is B (tables N L K E I S O F)
 
-                pub open_full : 256 ≤ o → Opened N L K E k l n m (Deny (Word 10))
+                pub open_full : 256 ≤ o → Opened N L K E k l n m (deny (Word 10))
                 unfolding opened_as need ◌>>=◌ take? started
                 open_full h = record {
                   says = λ I S O F v.
@@ -116,7 +127,7 @@ module _ (N L K E : List ℕ) (k l n m : ℕ) where
                   fits = tt;
                 }
 
-                pub open-first : o < 256 → Opened N L K E k l n m (First c s j o)
+                pub open-first : o < 256 → Opened N L K E k l n m (first c s j o)
                 unfolding opened_as need ◌>>=◌ take? started
                 open-first h = record {
                   says = λ I S O F v.

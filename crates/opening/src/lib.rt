@@ -3,6 +3,7 @@
 
 ghost use Rattle.std.specs.Prelude.{◌≡◌, ◌&&◌, leb, ltb};
 ghost use Rattle.opening.specs.Openings.{Opened};
+ghost use Rattle.resolution.specs.Quick.{over};
 ghost use Rattle.definition.specs.Numbers.{name_object, loader_limit};
 ghost use Rattle.definition.specs.Classes.{start_signature};
 
@@ -11,26 +12,21 @@ use definition::numbers::{
     WORD_FULL, WORD_SHARE, WORD_UNKNOWN,
 };
 use definition::{Arguments, Refusal, Signature};
-use resolution::{Found, Selection};
+use resolution::{Base, Selection};
 
-// A refusal; or an object's class, the class and the place of the first frame's method, and the object's number.
+// What a start makes: an object of a class, with a number, and a first frame in a method.
 #[derive(Clone, Copy)]
-pub enum Opening {
-    Deny(Refusal),
-    First(u32, u32, u32, u16),
+pub struct Opening {
+    pub class: u32,
+    pub method: Selection,
+    pub object: u16,
 }
 
 // The loader, class name and method name that a start may speak of.
 fn are_known(loader: u32, name: u16, method: u16) -> bool
     ensures { result ≡ (ltb loader loader_limit && leb name_object name && leb 1 method) }
 {
-    if LOADER_LIMIT <= loader {
-        return false;
-    }
-    if name < NAME_OBJECT {
-        return false;
-    }
-    1 <= method
+    loader < LOADER_LIMIT && NAME_OBJECT <= name && 1 <= method
 }
 
 // The signature of start's method: the name, one argument of type int, and int.
@@ -46,45 +42,39 @@ fn start_signature(method: u16) -> Signature
 
 // What is missing is refused where it was looked for, in the order 3 12 5 7 18 10.
 pub fn decide(
-    counts: &[u16],
-    classes: &[u16],
-    kept: &[u8],
-    cache: &[u16],
+    base: &Base,
     task: u32,
     loader: u32,
     name: u16,
     method: u16,
-) -> Opening
-    ensures { Opened counts.now classes.now kept.now cache.now task loader name method result }
+) -> Result<Opening, Refusal>
+    ensures { over Opened base.now task loader name method result }
 {
     if TASK_LIMIT <= task {
-        return Opening::Deny(Refusal::Word(WORD_UNKNOWN));
+        return Err(Refusal::Word(WORD_UNKNOWN));
     }
     if !are_known(loader, name, method) {
-        return Opening::Deny(Refusal::Word(WORD_UNKNOWN));
+        return Err(Refusal::Word(WORD_UNKNOWN));
     }
-    if tasks::frame_count(counts, task as u8) != 0 {
-        return Opening::Deny(Refusal::Word(WORD_BUSY));
+    if tasks::frame_count(base.counts, task as u8) != 0 {
+        return Err(Refusal::Word(WORD_BUSY));
     }
-    let Found::At(c) = resolution::find(counts, cache, loader as u16, name) else {
-        return Opening::Deny(Refusal::Wanted(loader as u8, name));
+    let Some(class) = base.find(loader as u16, name) else {
+        return Err(Refusal::Wanted(loader as u8, name));
     };
-    let Selection::Selected(s, j) = resolution::select_method(
-        counts,
-        classes,
-        kept,
-        cache,
-        c,
-        start_signature(method),
-    ) else {
-        return Opening::Deny(Refusal::Word(WORD_ABSENT));
+    let Some(selected) = base.select_method(class, start_signature(method)) else {
+        return Err(Refusal::Word(WORD_ABSENT));
     };
-    if frames::is_share_used(task as u8, frames::made_by(counts, task as u8)) {
-        return Opening::Deny(Refusal::Word(WORD_SHARE));
+    if frames::is_share_used(task as u8, frames::made_by(base.counts, task as u8)) {
+        return Err(Refusal::Word(WORD_SHARE));
     }
-    let free = frames::unused(counts, 0);
+    let free = frames::unused(base.counts, 0);
     if OBJECT_LIMIT <= free {
-        return Opening::Deny(Refusal::Word(WORD_FULL));
+        return Err(Refusal::Word(WORD_FULL));
     }
-    Opening::First(c, s, j, free)
+    Ok(Opening {
+        class,
+        method: selected,
+        object: free,
+    })
 }

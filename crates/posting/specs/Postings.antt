@@ -19,17 +19,24 @@ use Rattle.definition.specs.Tables.{tie, put_tie}
 use Rattle.instructions.specs.declared.Plan.{Plan}
 use Rattle.instructions.specs.declared.Plan.TheVariants.{Refuse, Keep, Jump, Above, Local, Give, Finish, Field, Enter, Make}
 use Rattle.instructions.specs.Plans.{meaning}
-pub use Rattle.posting.specs.declared.Posting.{Posting}
-pub use Rattle.posting.specs.declared.Posting.TheVariants.{Nothing, Ties}
+use Rattle.std.specs.Prelude.{Option, Some, None}
+use Rattle.posting.specs.declared.Ties.{Ties}
+
+-- what a step posts: nothing, or ties
+abbrev pub Posting : Type 0
+Posting = Option Ties
+
+abbrev pub tied : ℕ → ℕ → Arguments → ℕ → Posting
+tied l m ns n = Some (record { one = l; two = m; names = ns; last = n })
 
 -- the names that they are on
 unfoldable pub names_of : Posting → List ℕ
-names_of Nothing = []
-names_of (Ties l m ns n) = types_of ns ++ (n ∷ [])
+names_of None = []
+names_of (Some t) = types_of t.names ++ (t.last ∷ [])
 
 unfoldable pub to_post : Posting → List Tie
-to_post Nothing = []
-to_post (Ties l m ns n) = map (tie l m) (types_of ns ++ (n ∷ []))
+to_post None = []
+to_post (Some t) = map (tie t.one t.two) (types_of t.names ++ (t.last ∷ []))
 
 -- they are between those loaders
 abbrev pub Between : ℕ → ℕ → Posting → Type 0
@@ -51,11 +58,11 @@ few-names (TwoArguments a b) = omega arith
 few-names (ThreeArguments a b c) = omega arith
 few-names (FourArguments a b c d) = omega arith
 
-pub ties-counted : (l m : ℕ) (ns : Arguments) (n : ℕ) → length (to_post (Ties l m ns n)) ≡ length (types_of ns) + 1
+pub ties-counted : (l m : ℕ) (ns : Arguments) (n : ℕ) → length (to_post (tied l m ns n)) ≡ length (types_of ns) + 1
 unfolding to_post
 ties-counted l m ns n = length-map (types_of ns ++ (n ∷ [])) (tie l m) ∙ length-append (types_of ns) (n ∷ [])
 
-pub names-counted : (p : Posting) (l m : ℕ) (ns : Arguments) (n : ℕ) → p ≡ Ties l m ns n → length (to_post p) ≡ length (types_of ns) + 1
+pub names-counted : (p : Posting) (l m : ℕ) (ns : Arguments) (n : ℕ) → p ≡ tied l m ns n → length (to_post p) ≡ length (types_of ns) + 1
 names-counted p l m ns n e = ap (λ q. length (to_post q)) e ∙ ties-counted l m ns n
 
 module _ (xs ys : List ℕ) (i : ℕ) where
@@ -186,21 +193,21 @@ module _ (ts : List Tie) (l m n : ℕ) (p : Posting) (differ : l ≢ m) (between
   pub adds-known : is_new ts l m n ≡ false → Added ts l m n p p
   adds-known h = (between, rw (tie-known ts l m n (to_post p) (names_of p) differ between h, append-nil (to_post p)) refl)
 
-  pub adds-among : (a b : ℕ) (ns : Arguments) (last : ℕ) → p ≡ Ties a b ns last → any (is_named n) (types_of ns ++ (last ∷ [])) ≡ true → Added ts l m n p (Ties a b ns last)
+  pub adds-among : (a b : ℕ) (ns : Arguments) (last : ℕ) → p ≡ tied a b ns last → any (is_named n) (types_of ns ++ (last ∷ [])) ≡ true → Added ts l m n p (tied a b ns last)
   unfolding names_of
   adds-among a b ns last e h =
       let g : any (is_named n) (names_of p) ≡ true = ap (λ q. any (is_named n) (names_of q)) e ∙ h in
       let same : Added ts l m n p p = (between, rw (tie-among ts l m n (to_post p) (names_of p) differ between g, append-nil (to_post p)) refl) in
       subst (λ q. Added ts l m n p q) e same
 
-  pub adds-first : p ≡ Nothing → is_new ts l m n ≡ true → Added ts l m n p (Ties l m NoArguments n)
+  pub adds-first : p ≡ None → is_new ts l m n ≡ true → Added ts l m n p (tied l m NoArguments n)
   unfolding names_of to_post any
   adds-first e h =
       let g : any (is_named n) (names_of p) ≡ false = ap (λ q. any (is_named n) (names_of q)) e in
       (refl, rw (tie-new ts l m n (to_post p) (names_of p) differ between h g) (ap (λ q. to_post q ++ (tie l m n ∷ [])) (sym e)))
 
-  pub adds-next : (a b : ℕ) (ns us : Arguments) (last : ℕ) → p ≡ Ties a b ns last → is_new ts l m n ≡ true → any (is_named n) (types_of ns ++ (last ∷ [])) ≡ false
-      → types_of us ≡ types_of ns ++ (last ∷ []) → Added ts l m n p (Ties l m us n)
+  pub adds-next : (a b : ℕ) (ns us : Arguments) (last : ℕ) → p ≡ tied a b ns last → is_new ts l m n ≡ true → any (is_named n) (types_of ns ++ (last ∷ [])) ≡ false
+      → types_of us ≡ types_of ns ++ (last ∷ []) → Added ts l m n p (tied l m us n)
   unfolding names_of to_post
   adds-next a b ns us last e h k f =
       let g : any (is_named n) (names_of p) ≡ false = ap (λ q. any (is_named n) (names_of q)) e ∙ k in
@@ -253,7 +260,7 @@ Quiet us (Enter d e) = Unit {0}
 Quiet us (Make d c o) = Unit {0}
 
 abbrev pub quietly : Posting → Plan → Posting
-quietly x (Refuse r) = Nothing
+quietly x (Refuse r) = None
 quietly x (Keep d) = x
 quietly x (Jump d p) = x
 quietly x (Above d v) = x

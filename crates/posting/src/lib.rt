@@ -13,34 +13,30 @@ use definition::Arguments;
 use definition::numbers::NAME_INT;
 use instructions::Plan;
 
-// The ties that a step posts between two loaders: on each of those names in turn, and then on the last.
+// Ties between two loaders that a step posts, if it posts any: on each of those names in turn, and then on the last.
 #[derive(Clone, Copy)]
-pub enum Posting {
-    Nothing,
-    Ties(u8, u8, Arguments, u16),
+pub struct Ties {
+    pub one: u8,
+    pub two: u8,
+    pub names: Arguments,
+    pub last: u16,
 }
 
 // Whether a tie on that name between two different loaders is new. Int posts none.
 fn is_new(ties: &[u16], count: u16, one: u8, two: u8, name: u16) -> bool
     ensures { result ≡ is_new (rows (tie_at ties.now) count 0) one two name }
 {
-    if name == NAME_INT {
-        return false;
-    }
-    !rows::tie_known(ties, count, one, two, name)
+    name != NAME_INT && !rows::tie_known(ties, count, one, two, name)
 }
 
 // Whether the name is among those, or the last.
 fn is_among(names: Arguments, last: u16, name: u16) -> bool
     ensures { result ≡ any (is_named name) (types_of names ++ (last ∷ [])) }
 {
-    let n = argument_count(names);
-    let mut i: u8 = 0;
-    while i < n {
+    for i in 0..argument_count(names) {
         if argument_at(names, i) == name {
             return true;
         }
-        i += 1;
     }
     last == name
 }
@@ -60,48 +56,65 @@ fn with_name(names: Arguments, name: u16) -> Arguments
 }
 
 // A tie on one name more, unless it is known or to be posted already.
-fn add_name(ties: &[u16], count: u16, one: u8, two: u8, posting: Posting, name: u16) -> Posting
+fn add_name(
+    ties: &[u16],
+    count: u16,
+    one: u8,
+    two: u8,
+    posting: Option<Ties>,
+    name: u16,
+) -> Option<Ties>
     requires { (one ≢ two) × Between one two posting × (length (to_post posting) < 5) }
     ensures { Between one two result × (to_post result ≡ to_post posting ++ new_tie (rows (tie_at ties.now) count 0 ++ to_post posting) one two name) }
 {
     if !is_new(ties, count, one, two, name) {
         return posting;
     }
-    match posting {
-        Posting::Nothing => Posting::Ties(one, two, Arguments::NoArguments, name),
-        Posting::Ties(_, _, names, last) => {
-            if is_among(names, last, name) {
+    let names = match posting {
+        None => Arguments::NoArguments,
+        Some(before) => {
+            if is_among(before.names, before.last, name) {
                 return posting;
             }
-            Posting::Ties(one, two, with_name(names, last), name)
+            with_name(before.names, before.last)
         }
-    }
+    };
+    Some(Ties {
+        one,
+        two,
+        names,
+        last: name,
+    })
 }
 
 // The ties between two loaders on each of those names in turn, and then on the last, that are not known yet.
-pub fn new_ties(ties: &[u16], count: u16, one: u8, two: u8, names: Arguments, last: u16) -> Posting
+pub fn new_ties(
+    ties: &[u16],
+    count: u16,
+    one: u8,
+    two: u8,
+    names: Arguments,
+    last: u16,
+) -> Option<Ties>
     ensures { to_post result ≡ new_ties (rows (tie_at ties.now) count 0) one two (types_of names ++ (last ∷ [])) }
 {
     if one == two {
-        return Posting::Nothing;
+        return None;
     }
-    let n = argument_count(names);
-    let mut posting = Posting::Nothing;
-    let mut i: u8 = 0;
-    while i < n {
+    let mut posting = None;
+    for i in 0..argument_count(names) {
         posting = add_name(ties, count, one, two, posting, argument_at(names, i));
-        i += 1;
     }
     add_name(ties, count, one, two, posting, last)
 }
 
 // How many they are.
-pub fn tie_number(posting: Posting) -> u16
+pub fn tie_number(posting: Option<Ties>) -> u16
     ensures { (result ≡ length (to_post posting)) × (result < 6) }
 {
     match posting {
-        Posting::Nothing => 0,
-        Posting::Ties(_, _, names, _) => u16::from(argument_count(names)) + 1,
+        None => 0,
+        Some(new) => u16::from(argument_count(new.names)) + 1,
     }
 }
 
@@ -112,39 +125,35 @@ fn write_tie(ties: &mut [u16], i: u32, one: u8, two: u8, name: u16)
     cells::put_three(ties, i, u16::from(one), u16::from(two), name);
 }
 
-// Ties on each of those names in turn, and then on the last, written from row n on; the last is written first.
-fn write_names(ties: &mut [u16], n: u16, one: u8, two: u8, names: Arguments, last: u16)
-    ensures { ties.new ≡ write_rows put_tie (to_post (Posting.Ties one two names last)) n ties.old }
+// Ties written from row n on; the last is written first.
+fn write_names(ties: &mut [u16], n: u16, new: Ties)
+    ensures { ties.new ≡ write_rows put_tie (to_post (Some new)) n ties.old }
 {
-    let mut i = argument_count(names);
+    let count = argument_count(new.names);
     write_tie(
         ties,
-        u32::from(n) + u32::from(i),
-        one,
-        two,
-        last,
+        u32::from(n) + u32::from(count),
+        new.one,
+        new.two,
+        new.last,
     );
-    while 0 < i {
-        i -= 1;
+    for i in (0..count).rev() {
         write_tie(
             ties,
             u32::from(n) + u32::from(i),
-            one,
-            two,
-            argument_at(names, i),
+            new.one,
+            new.two,
+            argument_at(new.names, i),
         );
     }
 }
 
-// Ties written from row n on.
-pub fn write_ties(ties: &mut [u16], n: u16, posting: Posting)
+// What is posted, written from row n on.
+pub fn write_ties(ties: &mut [u16], n: u16, posting: Option<Ties>)
     ensures { ties.new ≡ write_rows put_tie (to_post posting) n ties.old }
 {
-    match posting {
-        Posting::Nothing => {}
-        Posting::Ties(one, two, names, last) => {
-            write_names(ties, n, one, two, names, last);
-        }
+    if let Some(new) = posting {
+        write_names(ties, n, new);
     }
 }
 
@@ -160,19 +169,11 @@ pub fn post(ties: &mut [u16], count: u16, one: u8, two: u8, names: Arguments, la
 }
 
 // What is posted with a plan: nothing with a refusal.
-pub fn quiet(posting: Posting, plan: Plan) -> Posting
+pub fn quiet(posting: Option<Ties>, plan: Plan) -> Option<Ties>
     ensures { result ≡ quietly posting plan }
 {
     match plan {
-        Plan::Refuse(_) => Posting::Nothing,
-        Plan::Keep(_) => posting,
-        Plan::Jump(_, _) => posting,
-        Plan::Above(_, _) => posting,
-        Plan::Local(_, _, _) => posting,
-        Plan::Give(_) => posting,
-        Plan::Finish(_) => posting,
-        Plan::Field(_, _, _, _) => posting,
-        Plan::Enter(_, _) => posting,
-        Plan::Make(_, _, _) => posting,
+        Plan::Refuse(_) => None,
+        _ => posting,
     }
 }

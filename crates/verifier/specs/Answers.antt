@@ -3,7 +3,6 @@ use Rattle.std.specs.Prelude.{◌≡◌, List, [], ◌∷◌, ◌++◌, ℕ, ◌
 use Rattle.std.specs.Prelude as P
 use Rattle.std.proofs.Math.Option.{Option, none, some}
 use Rattle.definition.specs.Lists.{stack}
-use Rattle.definition.specs.Instructions.{pick}
 use Rattle.definition.specs.Maybe.{◌>>=◌}
 use Rattle.definition.specs.declared.Arguments.{Arguments}
 use Rattle.definition.specs.Classes.{Map}
@@ -19,12 +18,13 @@ use Rattle.verifier.specs.declared.flows.Part.{Part}
 use Rattle.verifier.specs.declared.flows.Part.TheVariants.{Locals, Operands}
 use Rattle.verifier.specs.declared.quiet.Quiet.{Quiet}
 use Rattle.verifier.specs.declared.quiet.Quiet.TheVariants.{Keeps, Pushes, Sets}
-use Rattle.verifier.specs.declared.turns.Step.{Step}
-use Rattle.verifier.specs.declared.turns.Step.TheVariants.{Stop, End, Next}
+use Rattle.verifier.specs.declared.turns.Turn.{Turn}
+use Rattle.verifier.specs.declared.notes.Rejected.{Rejected as Rejection}
+use Rattle.rows.specs.Posting.{noted}
 use Rattle.verifier.specs.declared.methods.Ahead.{Ahead}
 use Rattle.verifier.specs.Types.{type_of, local_of, local_at, operand_at, locals_of, types_of}
 use Rattle.verifier.specs.Effects.{notes_in, Outcome, rejected, going, ending, left_by}
-use Rattle.verifier.specs.Trace.{values_trace, Onward, refused, accepted, onto, Turned, bound, left_from}
+use Rattle.verifier.specs.Trace.{values_trace, Onward, refused, accepted, onto, Turned, bound, Turning, turning, left_from}
 
 -- What an effect stands for
 
@@ -53,13 +53,19 @@ unfoldable pub made_flow : Types → ℕ → Meeting → Arguments → Option Fl
 made_flow s d a vs = notes_in a >>= λ x. some (record { types = types_of s; notes = x ++ (values_trace s.operands d vs).notes })
 
 -- what an instruction leaves, if it fits
-unfoldable pub change_of : Change → Option Flow
-change_of c = pick c.fits (some (record { types = types_of c.types; notes = made c.receiver ++ (values_trace c.types.operands c.place c.names).notes })) none
+unfoldable pub change_of : P.Option Change → Option Flow
+change_of P.None = none
+change_of (P.Some c) = some (record { types = types_of c.types; notes = made c.receiver ++ (values_trace c.types.operands c.place c.names).notes })
 
-unfoldable pub next_of : Step → TypeState → Onward
-next_of Stop s = refused
-next_of End s = accepted
-next_of (Next q) s = onto q s
+-- the point at which the walk goes on, none at the code's end
+unfoldable pub next_of : P.Option ℕ → TypeState → Onward
+next_of P.None s = accepted
+next_of (P.Some q) s = onto q s
+
+-- what a turn answers and leaves of the table of subtype constraints
+abbrev pub stepped : P.Result Turn Rejection → List ℕ → Turning
+stepped (P.Ok t) xs = turning (next_of t.next (types_of t.types)) (noted xs t.count)
+stepped (P.Err r) xs = turning refused (noted xs r.count)
 
 -- Turns without notes: the types that they leave
 

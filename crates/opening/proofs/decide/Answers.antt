@@ -1,11 +1,9 @@
 -- Each refusal in its order, and else what was selected.
-use mathlib.Core.Path.{refl, sym, ◌∙◌}
+use mathlib.Core.Path.{sym, ◌∙◌}
 use native.Mathlib.Omega.{arith}
-use borrow.Author.Tests.{not-true, not-false}
 use Rattle.opening.specs.Openings.{open-no-task, open_unknown, open-busy, open-wanted, open-absent, open-share-used, open_full, open-first, known-loader}
 use Rattle.resolution.specs.Lookups.{selection-at, selection-absent}
-use Rattle.access.specs.Members.{cached, uncached}
-use borrow.Author.Rules.{rules}
+use Rattle.cells.specs.Optional.{optional-none, optional-some}
 use Rattle.opening.proofs.decide.Goals as goal
 
 pub returns-then-task-ge-TASK_LIMIT : goal.returns-then-task-ge-TASK_LIMIT
@@ -25,27 +23,23 @@ overflow_cast-result c =
     omega (arith, known-loader c.args.loader c.args.name c.args.method (sym c.are_known.ensures ∙ c.if-not-are_known.false))
 
 pub returns-in_default : goal.returns-in_default
-returns-in_default c = open-wanted _ _ _ _ _ _ _ _ c.if-task-ge-TASK_LIMIT.false (sym c.are_known.ensures ∙ c.if-not-are_known.false) (rw c.if-frame_count-ne0.false at (sym c.frame_count.ensures)) (uncached _ _ _ _ _ _ _ _ c.find.ensures refl c.in_default.is)
+returns-in_default c = open-wanted _ _ _ _ _ _ _ _ c.if-task-ge-TASK_LIMIT.false (sym c.are_known.ensures ∙ c.if-not-are_known.false) (rw c.if-frame_count-ne0.false at (sym c.frame_count.ensures)) (optional-none _ (sym c.in_default.ensures))
 
 pub returns-in_default-select_method : goal.returns-in_default-select_method
 returns-in_default-select_method c =
-    let answer = rw c.start_signature.ensures at c.select_method.ensures in
-    open-absent _ _ _ _ _ _ _ _ c.if-task-ge-TASK_LIMIT.false (sym c.are_known.ensures ∙ c.if-not-are_known.false) (rw c.if-frame_count-ne0.false at (sym c.frame_count.ensures)) _ (cached _ _ _ _ _ _ _ _ c.find.ensures refl _ c.in-At.is) (selection-absent _ (sym answer ∙ c.in_default-select_method.is))
+    open-absent _ _ _ _ _ _ _ _ c.if-task-ge-TASK_LIMIT.false (sym c.are_known.ensures ∙ c.if-not-are_known.false) (rw c.if-frame_count-ne0.false at (sym c.frame_count.ensures)) _ (optional-some _ _ (sym c.in-Some.ensures)) (rw c.start_signature.ensures at (selection-absent _ (sym c.in_default-select_method.ensures)))
 
 pub returns-then-is_share_used : goal.returns-then-is_share_used
 returns-then-is_share_used c =
-    let answer = rw c.start_signature.ensures at c.select_method.ensures in
-    let x = selection-at _ _ _ (sym answer ∙ c.in-Selected.is) in
-    open-share-used _ _ _ _ _ _ _ _ c.if-task-ge-TASK_LIMIT.false (sym c.are_known.ensures ∙ c.if-not-are_known.false) (rw c.if-frame_count-ne0.false at (sym c.frame_count.ensures)) _ (cached _ _ _ _ _ _ _ _ c.find.ensures refl _ c.in-At.is) _ _ x _ c.made_by.ensures (sym c.is_share_used.ensures ∙ c.if-is_share_used.true)
+    let x = rw c.start_signature.ensures at (selection-at _ _ (sym c.in-Some-select_method.ensures)) in
+    open-share-used _ _ _ _ _ _ _ _ c.if-task-ge-TASK_LIMIT.false (sym c.are_known.ensures ∙ c.if-not-are_known.false) (rw c.if-frame_count-ne0.false at (sym c.frame_count.ensures)) _ (optional-some _ _ (sym c.in-Some.ensures)) _ _ x _ c.made_by.ensures (sym c.is_share_used.ensures ∙ c.if-is_share_used.true)
 
 pub returns-then-free-ge-OBJECT_LIMIT : goal.returns-then-free-ge-OBJECT_LIMIT
 returns-then-free-ge-OBJECT_LIMIT c =
-    let answer = rw c.start_signature.ensures at c.select_method.ensures in
-    let x = selection-at _ _ _ (sym answer ∙ c.in-Selected.is) in
-    open_full _ _ _ _ _ _ _ _ c.if-task-ge-TASK_LIMIT.false (sym c.are_known.ensures ∙ c.if-not-are_known.false) (rw c.if-frame_count-ne0.false at (sym c.frame_count.ensures)) _ (cached _ _ _ _ _ _ _ _ c.find.ensures refl _ c.in-At.is) _ _ x _ c.made_by.ensures (sym c.is_share_used.ensures ∙ c.if-is_share_used.false) _ c.unused-free.ensures c.if-free-ge-OBJECT_LIMIT.true
+    let x = rw c.start_signature.ensures at (selection-at _ _ (sym c.in-Some-select_method.ensures)) in
+    open_full _ _ _ _ _ _ _ _ c.if-task-ge-TASK_LIMIT.false (sym c.are_known.ensures ∙ c.if-not-are_known.false) (rw c.if-frame_count-ne0.false at (sym c.frame_count.ensures)) _ (optional-some _ _ (sym c.in-Some.ensures)) _ _ x _ c.made_by.ensures (sym c.is_share_used.ensures ∙ c.if-is_share_used.false) _ c.unused-free.ensures c.if-free-ge-OBJECT_LIMIT.true
 
 pub returns : goal.returns
 returns c =
-    let answer = rw c.start_signature.ensures at c.select_method.ensures in
-    let x = selection-at _ _ _ (sym answer ∙ c.in-Selected.is) in
-    open-first _ _ _ _ _ _ _ _ c.if-task-ge-TASK_LIMIT.false (sym c.are_known.ensures ∙ c.if-not-are_known.false) (rw c.if-frame_count-ne0.false at (sym c.frame_count.ensures)) _ (cached _ _ _ _ _ _ _ _ c.find.ensures refl _ c.in-At.is) _ _ x _ c.made_by.ensures (sym c.is_share_used.ensures ∙ c.if-is_share_used.false) _ c.unused-free.ensures c.if-free-ge-OBJECT_LIMIT.false
+    let x = rw c.start_signature.ensures at (selection-at _ _ (sym c.in-Some-select_method.ensures)) in
+    open-first _ _ _ _ _ _ _ _ c.if-task-ge-TASK_LIMIT.false (sym c.are_known.ensures ∙ c.if-not-are_known.false) (rw c.if-frame_count-ne0.false at (sym c.frame_count.ensures)) _ (optional-some _ _ (sym c.in-Some.ensures)) _ _ x _ c.made_by.ensures (sym c.is_share_used.ensures ∙ c.if-is_share_used.false) _ c.unused-free.ensures c.if-free-ge-OBJECT_LIMIT.false

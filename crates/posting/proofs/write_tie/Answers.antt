@@ -1,5 +1,4 @@
 -- Three cells make a tie's row.
-use borrow.Author.Rules.{rules}
 use Rattle.definition.specs.Tables.{put_tie}
 use Rattle.posting.proofs.write_tie.Goals as goal
 

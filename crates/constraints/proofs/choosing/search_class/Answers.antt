@@ -25,4 +25,4 @@ returns c =
     let consider-all = c.consider_all in
     let ends = ends_in args.only args.aboves.now args.stamp args.classes.now args.cached args.c in
     let r = c.spread.ensures ends (c.seed-seeds.ensures (replicate 1280 0) (length-replicate {A = ℕ} 1280 0)) in
-    (consider-all.ensures.0, rw consider-all.ensures.1 (chosen-for _ _ _ _ _ pre.3 _ _ r.1 _ pre.2 _ _ _))
+    (consider-all.ensures.0, rw consider-all.ensures.1 (chosen-for _ _ _ _ _ pre.3 _ _ r.1 _ _ c.unwrap_or-limit.ensures _ _ _))
