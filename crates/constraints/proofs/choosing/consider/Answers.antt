@@ -22,9 +22,6 @@ returns-then-not-goes_before c =
     let dist : get_or c.args.dists.now c.args.node 0 ≡ suc k = omega (arith, c.at-dist.ensures, c.if-dist-eq0.false) in
     (rw c.in-Some.is at c.requires.0, rw c.in-Some.is (stays_after _ _ _ _ _ _ k _ dist c.if-held-k-2.true (rw c.from.ensures at (sym c.goes_before.ensures ∙ c.if-not-goes_before.true))))
 
-pub write_trail-requires : goal.write_trail-requires
-write_trail-requires c = (omega (arith, c.requires.1), c.requires.0.long)
-
 pub returns : goal.returns
 returns c =
     let args = c.args in
