@@ -4,14 +4,13 @@ use mathlib.Core.Bool.{Bool, true, false}
 use mathlib.Core.List.{List, [], ◌∷◌, ◌++◌, append_assoc}
 use Prim.Native.Nat.{ℕ, zero, suc, ◌+◌, ◌-◌, ◌<◌, ◌≤◌}
 use native.Mathlib.Omega.{arith}
-use lib.ListN.{length, get_or, set, take, replicate, length-append, length-replicate}
+use lib.ListN.{length, get_or, set, replicate, length-append, length-replicate}
 use lib.Seq.{take_all, set_at, ext_get_or, get_or-set_other}
-use lib.Dec.{leb, ltb}
+use lib.Dec.{ltb}
 use borrow.Author.Tests.{lt-ltb, le-ltb, ltb-true, ltb-false}
 use Rattle.definition.specs.Numbers.{count_ties, owners_cell, tie_numbers_cell, subtype_numbers_cell, loads_cell, groups_cell, counts_length, object_limit, tie_limit, subtype_limit}
 use Rattle.definition.specs.Lists.{rows, write_rows, filled}
 use Rattle.definition.specs.Instructions.{pick}
-use Rattle.definition.specs.Constraints.{Tie}
 use Rattle.definition.specs.Groups.{groups_of}
 use Rattle.definition.specs.Tables.{tie_at, number_at, put_number, put_groups, ties_of}
 use Rattle.definition.specs.Calls.{numbers_from}
@@ -20,7 +19,6 @@ use Rattle.definition.specs.First.Tables.{FirstTables}
 use Rattle.layout.specs.Places.{rows-length, rows-get_d, rows_both, rows-cong, rows_take}
 use Rattle.layout.specs.GroupedRows.{groups-length}
 use Rattle.layout.specs.InTurn.{RisesFrom}
-use Rattle.groups.specs.Lowest.{ties_at}
 use Rattle.groups.specs.Laws.{numbers_in}
 use Rattle.groups.specs.Numbered.{ties_fit, regrouped}
 use Rattle.groups.specs.Grouped.{regrouped-is}

@@ -1,17 +1,16 @@
 -- How old tables are judged: by lengths and counts that would leave no room for their rows' numbers, by today's test of the tables that would be filled, and by versions.
 use mathlib.Core.Path.{◌≡◌, refl, sym, ap, subst, ◌∙◌}
-use mathlib.Core.Bool.{Bool, true, false, not, ◌&&◌, false≢true}
+use mathlib.Core.Bool.{Bool, true, false, false≢true}
 use mathlib.Core.List.{List}
 use Prim.Native.Nat.{ℕ, ◌<◌, ◌≤◌}
 use native.Mathlib.Omega.{arith}
 use lib.ListN.{length, get_or}
-use lib.Dec.{leb}
 use borrow.Author.Tests.{le-leb, not-false}
 use Rattle.definition.specs.Numbers.{count_ties, owners_cell, tie_limit, counts_length}
 use Rattle.definition.specs.Lists.{rows, all}
 use Rattle.definition.specs.Tables.{Tables, tie_at, ties_of, view, view_over}
 use Rattle.definition.specs.Broken.{tie_fits, sound, whole, broken}
-use Rattle.definition.specs.Changeover.{with_counts, carry}
+use Rattle.definition.specs.Changeover.{with_counts}
 use Rattle.definition.specs.First.Tables.{FirstTables, first_view, first_view_over}
 use Rattle.definition.specs.First.Broken.{first_sound, first_whole, first_broken}
 use Rattle.layout.specs.Tests.{every_true}
@@ -31,19 +30,19 @@ today-fit : (t : Tables) → broken t ≡ false → all tie_fits (ties_of t) ≡
 unfolding broken whole sound view view_over
 today-fit t h = (every_true _ (every_true _ (not-false _ h)).1.1.0).1.1.0
 
-module _ (u : FirstTables) (m : List ℕ) where
+module _ (u : FirstTables) where
   -- what can't be of a store that isn't broken
-  refused-if : (first_broken u ≡ false → ⊥) → Judged u false m
+  refused-if : (first_broken u ≡ false → ⊥) → first_broken u ≡ true
   refused-if h = go (first_broken u) refl
     where
-      go : (b : Bool) → first_broken u ≡ b → Judged u false m
-      go true e = record { sound = sym (ap not e); carried = λ f. absurd (false≢true f) }
+      go : (b : Bool) → first_broken u ≡ b → first_broken u ≡ true
+      go true e = e
       go false e = absurd (h e)
 
-  pub other_length : (length u.counts ≡ owners_cell → ⊥) → Judged u false m
+  pub other_length : (length u.counts ≡ owners_cell → ⊥) → first_broken u ≡ true
   other_length h = refused-if (λ e. h (unbroken-within u e).eight)
 
-  pub many-ties : tie_limit < get_or u.counts count_ties 0 → Judged u false m
+  pub many-ties : tie_limit < get_or u.counts count_ties 0 → first_broken u ≡ true
   many-ties l = refused-if (λ e. absurd (omega (arith, (unbroken-within u e).few)))
 
 module _ (u : FirstTables) (eight : length u.counts ≡ owners_cell) (few : get_or u.counts count_ties 0 ≤ tie_limit) where
@@ -66,22 +65,27 @@ module _ (u : FirstTables) (eight : length u.counts ≡ owners_cell) (few : get_
   unfit-today : fit ≡ false → broken (with_counts given u) ≡ false → ⊥
   unfit-today e h = false≢true (sym e ∙ (fit_is ∙ (ap (λ (n : ℕ). all tie_fits (rows (tie_at u.ties) n 0)) (sym (given-count e)) ∙ today-fit (with_counts given u) h)))
 
-  pub broken-judges : broken (with_counts given u) ≡ true → Judged u false given
-  broken-judges h = refused-if u given (go fit refl)
+  broken-judges : broken (with_counts given u) ≡ true → first_broken u ≡ true
+  broken-judges h = refused-if u (go fit refl)
     where
       go : (f : Bool) → fit ≡ f → first_broken u ≡ false → ⊥
       go false e z = unfit-first e z
       go true e z = false≢true (sym z ∙ (broken-judged u ∙ rw (ap (λ (c : List ℕ). broken (with_counts c u)) (sym (carried-counts u eight few e)) ∙ h) refl))
 
-  pub versions-judge : broken (with_counts given u) ≡ false → (k : Bool) → k ≡ keeps_later u → Judged u (not k) given
-  versions-judge h k q = go fit refl
-    where
-      go : (f : Bool) → fit ≡ f → Judged u (not k) given
-      go false e = absurd (unfit-today e h)
-      go true e = record {
-        sound = ap not (q ∙ sym (broken-judged u ∙ rw (ap (λ (c : List ℕ). broken (with_counts c u)) (sym (carried-counts u eight few e)) ∙ h) refl));
-        carried = λ _. carried-counts u eight few e;
-      }
+  module _ (h : broken (with_counts given u) ≡ false) where
+    fits : fit ≡ true
+    fits = go fit refl
+      where
+        go : (f : Bool) → fit ≡ f → fit ≡ true
+        go true e = e
+        go false e = absurd (unfit-today e h)
+
+    -- versions are all that is left
+    versions-judge : keeps_later u ≡ first_broken u
+    versions-judge = sym (broken-judged u ∙ rw (ap (λ (c : List ℕ). broken (with_counts c u)) (sym (carried-counts u eight few fits)) ∙ h) refl)
+
+    given-judged : keeps_later u ≡ false → Judged u given
+    given-judged q = record { unbroken = sym versions-judge ∙ q; carried = carried-counts u eight few fits }
 
 -- the same of counts that were listed for n ties, and then grouped
 module _ (u : FirstTables) (eight : length u.counts ≡ owners_cell) (n : ℕ) (few : n ≤ tie_limit) (e : n ≡ get_or u.counts count_ties 0)
@@ -92,8 +96,15 @@ module _ (u : FirstTables) (eight : length u.counts ≡ owners_cell) (n : ℕ) (
   is-given : k ≡ given u eight room
   is-given = groups ∙ ap (λ (z : List ℕ). regrouped z u.ties (get_or z count_ties 0)) (lists ∙ ap (λ (x : ℕ). rows (cell_of u.counts x) counts_length 0) e)
 
-  pub told-broken : broken (with_counts k u) ≡ true → Judged u false k
-  told-broken h = subst (Judged u false) (sym is-given) (broken-judges u eight room (ap (λ (z : List ℕ). broken (with_counts z u)) (sym is-given) ∙ h))
+  pub told-broken : broken (with_counts k u) ≡ true → first_broken u ≡ true
+  told-broken h = broken-judges u eight room (ap (λ (z : List ℕ). broken (with_counts z u)) (sym is-given) ∙ h)
 
-  pub told-versions : broken (with_counts k u) ≡ false → (l : Bool) → l ≡ keeps_later u → Judged u (not l) k
-  told-versions h l q = subst (Judged u (not l)) (sym is-given) (versions-judge u eight room (ap (λ (z : List ℕ). broken (with_counts z u)) (sym is-given) ∙ h) l q)
+  module _ (h : broken (with_counts k u) ≡ false) where
+    unbroken-given : broken (with_counts (given u eight room) u) ≡ false
+    unbroken-given = ap (λ (z : List ℕ). broken (with_counts z u)) (sym is-given) ∙ h
+
+    pub told-later : keeps_later u ≡ true → first_broken u ≡ true
+    told-later q = sym (versions-judge u eight room unbroken-given) ∙ q
+
+    pub told-judged : keeps_later u ≡ false → Judged u k
+    told-judged q = subst (Judged u) (sym is-given) (given-judged u eight room unbroken-given q)

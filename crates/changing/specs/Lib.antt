@@ -1,4 +1,3 @@
 -- What the functions of the changeover promise.
 pub mod Cells
 pub mod Judged
-pub mod Lengths

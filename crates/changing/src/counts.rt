@@ -35,9 +35,7 @@ pub(crate) fn list_cells(carried: &mut [u16], old_counts: &[u16], n: u16)
     requires { (n ≤ tie_limit) × Blank carried.old }
     ensures { carried.new ≡ rows (cell_of old_counts.now n) counts_length 0 }
 {
-    let mut i = 0;
-    while i < LOADS_CELL {
+    for i in 0..LOADS_CELL {
         carried[i] = cell_of(old_counts, n, i);
-        i += 1;
     }
 }

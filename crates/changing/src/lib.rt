@@ -2,26 +2,24 @@
 // They are judged before a new cell is written, by today's test of the tables that would be filled and by the versions of the kept files.
 #![tactic(auto)]
 
-mod copying; // copying.rt: tables copied into others of the same lengths
 mod counts; // counts.rt: the counts that the new tables get
 mod versions; // versions.rt: whether a file of a later version is kept
 
-ghost use Rattle.std.specs.Prelude.{◌≡◌};
+ghost use Rattle.std.specs.Prelude.{◌≡◌, true, MatchOption};
 ghost use Rattle.definition.specs.Tables.{tables};
 ghost use Rattle.definition.specs.Calls.{done};
 ghost use Rattle.definition.specs.Changeover.{changeover};
-ghost use Rattle.changing.specs.Cells.{Blank};
+ghost use Rattle.definition.specs.First.Broken.{first_broken};
 ghost use Rattle.changing.specs.Judged.{Judged};
 
-use crate::copying::fill;
 use crate::counts::list_cells;
 use crate::versions::keeps_later;
+use copying::fill;
 use definition::numbers::{COUNT_TIES, COUNTS_LENGTH, OWNERS_CELL, TIE_LIMIT, WORD_BROKEN};
 use definition::{Refusal, Reply};
 
-// Whether the old tables are a store that isn't broken. If so `carried` has the counts that the new ones get.
+// The counts that the new tables get, if the old ones are a store that isn't broken.
 fn judge(
-    carried: &mut [u16],
     old_counts: &[u16],
     old_classes: &[u16],
     old_kept: &[u8],
@@ -30,21 +28,21 @@ fn judge(
     old_subtypes: &[u16],
     old_objects: &[u32],
     old_frames: &[u32],
-) -> bool
-    requires { Blank carried.old }
-    ensures { Judged (tables old_counts.now old_classes.now old_kept.now old_cache.now old_ties.now old_subtypes.now old_objects.now old_frames.now) result carried.new }
+) -> Option<[u16; COUNTS_LENGTH]>
+    ensures { MatchOption result (first_broken (tables old_counts.now old_classes.now old_kept.now old_cache.now old_ties.now old_subtypes.now old_objects.now old_frames.now) ≡ true) (Judged (tables old_counts.now old_classes.now old_kept.now old_cache.now old_ties.now old_subtypes.now old_objects.now old_frames.now)) }
 {
     if old_counts.len() != OWNERS_CELL {
-        return false;
+        return None;
     }
     let n = cells::at(old_counts, COUNT_TIES);
     if TIE_LIMIT < n {
-        return false;
+        return None;
     }
-    list_cells(carried, old_counts, n);
-    groups::write_groups(carried, old_ties);
+    let mut carried = [0u16; COUNTS_LENGTH];
+    list_cells(&mut carried, old_counts, n);
+    groups::write_groups(&mut carried, old_ties);
     if store::is_broken(
-        carried,
+        &carried,
         old_classes,
         old_kept,
         old_cache,
@@ -53,9 +51,12 @@ fn judge(
         old_objects,
         old_frames,
     ) {
-        return false;
+        return None;
     }
-    !keeps_later(old_counts, old_classes, old_kept)
+    if keeps_later(old_counts, old_classes, old_kept) {
+        return None;
+    }
+    Some(carried)
 }
 
 // The new tables filled from the old ones, every cell, whatever they held. Refusals: 1
@@ -84,9 +85,7 @@ pub fn change_over(
     ) {
         return Reply::Denied(Refusal::Word(WORD_BROKEN));
     }
-    let mut carried = [0u16; COUNTS_LENGTH];
-    if !judge(
-        &mut carried,
+    let Some(carried) = judge(
         old_counts,
         old_classes,
         old_kept,
@@ -95,9 +94,9 @@ pub fn change_over(
         old_subtypes,
         old_objects,
         old_frames,
-    ) {
+    ) else {
         return Reply::Denied(Refusal::Word(WORD_BROKEN));
-    }
+    };
     fill(
         &carried,
         old_classes,

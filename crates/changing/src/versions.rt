@@ -33,12 +33,10 @@ pub(crate) fn keeps_later(counts: &[u16], classes: &[u16], kept: &[u8]) -> bool
 {
     let bytes = at(counts, COUNT_KEPT);
     let n = at(counts, COUNT_CLASSES);
-    let mut c: u16 = 0;
-    while c < n {
+    for c in 0..n {
         if later_row(classes, kept, bytes, c) {
             return true;
         }
-        c += 1;
     }
     false
 }

@@ -6,19 +6,17 @@ use mathlib.Core.List.{List, [], ◌∷◌}
 use mathlib.Core.Logic.{◌⊎◌, inl, inr}
 use Prim.Native.Nat.{ℕ, ◌+◌, ◌<◌, ◌≤◌}
 use native.Mathlib.Omega.{arith}
-use lib.ListN.{length, get_or, set}
-use lib.Seq.{get_or-set_same}
+use lib.ListN.{get_or}
 use lib.Dec.{ltb}
 use borrow.Author.Tests.{eq-eqb, ne_eqb, lt-ltb, le-ltb, ltb-true}
 use Rattle.std.specs.Prelude as P
-use Rattle.definition.specs.Lists.{rows}
 use Rattle.definition.specs.Superclasses.{Below, Falls, below, same, up}
 use Rattle.definition.specs.Reasons.{precedes}
 use Rattle.laws.specs.Upward.{below_true, true_below}
 use Rattle.laws.specs.Earlier.{row_before}
 use Rattle.cells.specs.Optional.{optional}
 use Rattle.constraints.specs.Walks.{bad_over, ends_over, InRange, Sole}
-use Rattle.constraints.specs.Choosing.{no_size, held, pick, NoBetter, OneSize, WalkFrom, Chosen, alone, considered_alone, Alone, BestOf}
+use Rattle.constraints.specs.Choosing.{one_row, pick, NoBetter, WalkFrom, Chosen, alone, considered_alone, Alone, BestOf}
 use Rattle.constraints.proofs.Rows.{Order, less, equal, more, order, both_true}
 use Rattle.constraints.proofs.Choices.{pick-new, pick-still, pick-from}
 
@@ -32,9 +30,6 @@ module _ (sup : ℕ → Option ℕ) (falls : Falls sup) (c d : ℕ) where
   pub record Climbing (next : P.Option ℕ) : Type 0 where
     pub into : Below sup c d → From next
     pub back : From next → Below sup c d
-
-  pub climbing-first : Climbing (P.Some c)
-  climbing-first = record { into = λ b. b; back = λ b. b }
 
   pub climbing-here : (next : P.Option ℕ) (x : ℕ) → next ≡ P.Some x → x ≡ d → Climbing next → true ≡ below sup c d
   climbing-here next x e q k = sym (true_below sup falls c d (k.back (rw e (same q))))
@@ -93,14 +88,6 @@ module _ (froms tos classes : List ℕ) (cached : ℕ) (only : Bool) (sup : ℕ 
 
 -- One row kept
 
-one-held : (best : List ℕ) → held best 1 ≡ some (get_or best 0 0 ∷ [])
-unfolding held rows
-one-held best = refl
-
-none-held : (best : List ℕ) → held best no_size ≡ none
-unfolding held
-none-held best = refl
-
 module _ (froms tos labels classes : List ℕ) (cached : ℕ) (only : Bool) (sup : ℕ → Option ℕ) (e : ℕ) where
   abbrev after : Option (List ℕ) → Option (List ℕ)
   after = considered_alone froms tos labels classes cached only sup e
@@ -113,41 +100,36 @@ module _ (froms tos labels classes : List ℕ) (cached : ℕ) (only : Bool) (sup
   unfolding considered_alone
   taken o t = rw (t, considered_alone) refl
 
-  module _ (r : Bool) (test : r ≡ alone froms tos classes cached only sup e) (yes : r ≡ true) (x : ℕ) (label : x ≡ get_or labels e 0) (best : List ℕ) where
+  module _ (r : Bool) (test : r ≡ alone froms tos classes cached only sup e) (yes : r ≡ true) (x : ℕ) (label : x ≡ get_or labels e 0) where
     is : alone froms tos classes cached only sup e ≡ true
     is = sym test ∙ yes
 
     -- it doesn't go before the row that is kept
-    pub alone-later : (size y : ℕ) → size ≡ 1 → y ≡ get_or best 0 0 → row_before x y ≡ false → held best size ≡ considered_alone froms tos labels classes cached only sup e (held best size)
+    pub alone-later : (y : ℕ) → row_before x y ≡ false → one_row (P.Some y) ≡ considered_alone froms tos labels classes cached only sup e (one_row (P.Some y))
     unfolding pick precedes
-    alone-later size y s p l =
-        ap (held best) s ∙ (one-held best ∙ sym (ap (λ (z : ℕ). after (held best z)) s ∙ (ap after (one-held best) ∙ (taken (some (get_or best 0 0 ∷ [])) is ∙ kept))))
+    alone-later y l = sym (taken (some (y ∷ [])) is ∙ kept)
       where
-        after-it : row_before (get_or labels e 0) (get_or best 0 0) ≡ false
-        after-it = sym (λ i. row_before (label i) (p i)) ∙ l
+        after-it : row_before (get_or labels e 0) y ≡ false
+        after-it = sym (ap (λ (z : ℕ). row_before z y) label) ∙ l
 
-        late : precedes row_before (get_or labels e 0 ∷ []) (get_or best 0 0 ∷ []) ≡ false
-        late = rw (after-it, precedes) (go (row_before (get_or best 0 0) (get_or labels e 0)))
+        late : precedes row_before (get_or labels e 0 ∷ []) (y ∷ []) ≡ false
+        late = rw (after-it, precedes) (go (row_before y (get_or labels e 0)))
           where
             go : (t : Bool) → ◌≡◌ {A = Bool} (elim t as (λ _. Bool) [ true ↦ false | false ↦ precedes row_before [] [] ]) false
             go true = refl
             go false = refl
 
-        kept : pick (some (get_or best 0 0 ∷ [])) (get_or labels e 0 ∷ []) ≡ some (get_or best 0 0 ∷ [])
+        kept : pick (some (y ∷ [])) (get_or labels e 0 ∷ []) ≡ some (y ∷ [])
         kept = rw (late, pick) refl
 
     -- it goes before it, or there is none
-    pub alone-sooner : (size : ℕ) → OneSize size → 0 < length best → (size ≡ 1 → row_before x (get_or best 0 0) ≡ true)
-        → held (set best 0 x) 1 ≡ considered_alone froms tos labels classes cached only sup e (held best size)
+    pub alone-sooner : (o : P.Option ℕ) → P.IfSome o (λ y. row_before x y ≡ true) → one_row (P.Some x) ≡ considered_alone froms tos labels classes cached only sup e (one_row o)
     unfolding pick precedes
-    alone-sooner size s long l = one-held (set best 0 x) ∙ (ap (λ (z : ℕ). some (z ∷ [])) (get_or-set_same best 0 x 0 long ∙ label) ∙ sym (taken (held best size) is ∙ go s))
+    alone-sooner o l = ap (λ (z : ℕ). some (z ∷ [])) label ∙ sym (taken (one_row o) is ∙ go o l)
       where
-        first : size ≡ 1 → pick (some (get_or best 0 0 ∷ [])) (get_or labels e 0 ∷ []) ≡ some (get_or labels e 0 ∷ [])
-        first q = rw (sym (ap (λ (z : ℕ). row_before z (get_or best 0 0)) label) ∙ l q, pick, precedes) refl
-
-        go : (size ≡ 1) ⊎ (size ≡ no_size) → pick (held best size) (get_or labels e 0 ∷ []) ≡ some (get_or labels e 0 ∷ [])
-        go (inl q) = ap (λ (z : Option (List ℕ)). pick z (get_or labels e 0 ∷ [])) (ap (held best) q ∙ one-held best) ∙ first q
-        go (inr q) = ap (λ (z : Option (List ℕ)). pick z (get_or labels e 0 ∷ [])) (ap (held best) q ∙ none-held best)
+        go : (o : P.Option ℕ) → P.IfSome o (λ y. row_before x y ≡ true) → pick (one_row o) (get_or labels e 0 ∷ []) ≡ some (get_or labels e 0 ∷ [])
+        go P.None h = refl
+        go (P.Some y) h = rw (sym (ap (λ (z : ℕ). row_before z y) label) ∙ h, pick, precedes) refl
 
 -- Link after link
 
@@ -265,9 +247,3 @@ fewer-range h r = record { few = omega (arith, r.few); from = λ e l. r.from e (
 
 pub fewer-sole : (froms tos labels : List ℕ) (few many : ℕ) → few ≤ many → Sole froms tos labels many → Sole froms tos labels few
 fewer-sole froms tos labels few many h s d e l k = s d e (omega arith) (omega arith)
-
-pub none-is-held : (best : List ℕ) → held best no_size ≡ none
-none-is-held best = none-held best
-
-pub one-is-held : (best : List ℕ) (size : ℕ) → size ≡ 1 → held best size ≡ some (get_or best 0 0 ∷ [])
-one-is-held best size e = ap (held best) e ∙ one-held best

@@ -18,9 +18,10 @@ use Rattle.definition.specs.Superclasses.{Falls}
 use Rattle.definition.specs.Reasons.{precedes}
 use Rattle.laws.specs.Earlier.{row_before, row-order, later-head, same_head, not_itself, not-before-on, before-not}
 use Rattle.layout.specs.Places.{rows-length, rows_step, rows_none, rows_last, rows-cong}
+use Rattle.std.specs.Prelude as P
 use Rattle.constraints.specs.Nodes.{place_limit}
 use Rattle.constraints.specs.Walks.{Found, dist_of, way_of, Walk, Onward, Exact, Spread, Sole, trail, bad_in, ends_in, bad_over, ends_over, Zeroed, InRange}
-use Rattle.constraints.specs.Choosing.{no_size, held, Holds, pick, considered, considered_all, NoBetter, ChosenFor, WalkFrom, Chosen}
+use Rattle.constraints.specs.Choosing.{held, pick, considered, considered_all, NoBetter, ChosenFor, WalkFrom, Chosen}
 use Rattle.constraints.specs.Search.{start_of, marked}
 use Rattle.constraints.specs.Upward.{Raised}
 use Rattle.constraints.proofs.Marking.{stamped-none}
@@ -345,20 +346,9 @@ module _ (tos labels dists ways : List ℕ) where
     unfolding considered_all
     left-none n q o h = let z : n - q ≡ 0 = omega arith in rw z
 
--- What is held
-
-module _ (best : List ℕ) where
-  held_none : (size : ℕ) → size ≡ no_size → held best size ≡ none
-  unfolding held
-  held_none size e = rw (eq-eqb size no_size e, held) refl
-
-  held-some : (size : ℕ) → size ≤ place_limit → held best size ≡ some (rows (λ i. get_or best i 0) size 0)
-  unfolding held
-  held-some size h = rw (ne_eqb size no_size (λ e. omega arith), held) refl
-
 -- The chain from a node is considered
 
-module _ (tos labels dists ways best : List ℕ) (q k size : ℕ) (dist : get_or dists q 0 ≡ suc k) (low : k ≤ place_limit) where
+module _ (tos labels dists ways best : List ℕ) (q k size : ℕ) (dist : get_or dists q 0 ≡ suc k) where
   abbrev kept : List ℕ
   kept = rows (λ i. get_or best i 0) size 0
 
@@ -368,30 +358,30 @@ module _ (tos labels dists ways best : List ℕ) (q k size : ℕ) (dist : get_or
   sizes : (length kept ≡ size) × (length new ≡ k)
   sizes = (rows-length (λ i. get_or best i 0) size 0, trail-length tos labels ways k q)
 
-  pub stays-longer : size < k → held best size ≡ considered tos labels dists ways q (held best size)
-  stays-longer h =
-      let s = sizes in
-      let e = held-some best size (omega arith) in
-      rw e (sym (considered-found tos labels dists ways q k (some kept) dist ∙ pick-longer kept new (omega arith)))
+  pub stays-longer : size < k → some kept ≡ considered tos labels dists ways q (some kept)
+  stays-longer h = let s = sizes in sym (considered-found tos labels dists ways q k (some kept) dist ∙ pick-longer kept new (omega arith))
 
-  pub stays_after : size ≡ k → precedes row_before new (rows (λ i. get_or best i 0) k 0) ≡ false → held best size ≡ considered tos labels dists ways q (held best size)
-  stays_after h p =
-      let s = sizes in
-      let e = held-some best size (omega arith) in
-      rw e (sym (considered-found tos labels dists ways q k (some kept) dist ∙ pick-alike kept new false (omega arith) (rw h p)))
+  pub stays_after : size ≡ k → precedes row_before new (rows (λ i. get_or best i 0) k 0) ≡ false → some kept ≡ considered tos labels dists ways q (some kept)
+  stays_after h p = let s = sizes in sym (considered-found tos labels dists ways q k (some kept) dist ∙ pick-alike kept new false (omega arith) (rw h p))
 
-  pub comes-in : (after : List ℕ) → (size ≤ place_limit) ⊎ (size ≡ no_size) → k ≤ size → (size ≡ k → precedes row_before new (rows (λ i. get_or best i 0) k 0) ≡ true) → rows (λ i. get_or after i 0) k 0 ≡ new
-      → held after k ≡ considered tos labels dists ways q (held best size)
-  unfolding pick
-  comes-in after fits h p w = held-some after k low ∙ ap (λ (l : List ℕ). some l) w ∙ sym (considered-found tos labels dists ways q k (held best size) dist ∙ go fits)
+  comes_first : k ≤ size → (size ≡ k → precedes row_before new (rows (λ i. get_or best i 0) k 0) ≡ true) → pick (some kept) new ≡ some new
+  comes_first h p = less (eq-or-lt_of_le h)
     where
       less : (k ≡ size) ⊎ (k < size) → pick (some kept) new ≡ some new
       less (inl e) = pick-alike kept new true (sizes.1 ∙ e ∙ sym sizes.0) (rw (sym e) (p (sym e)))
       less (inr l) = pick-shorter kept new (omega (arith, sizes.0, sizes.1))
 
-      go : (size ≤ place_limit) ⊎ (size ≡ no_size) → pick (held best size) new ≡ some new
-      go (inl l) = rw (held-some best size l) (less (eq-or-lt_of_le h))
-      go (inr e) = rw (held_none best size e) refl
+-- it comes in where none was held, or one that it is better than
+pub comes-in : (tos labels dists ways best : List ℕ) (q k : ℕ) → get_or dists q 0 ≡ suc k → (after : List ℕ) (o : P.Option ℕ)
+    → P.IfSome o (λ n. (k ≤ n) × (n ≡ k → precedes row_before (trail tos labels ways k q) (rows (λ i. get_or best i 0) k 0) ≡ true))
+    → rows (λ i. get_or after i 0) k 0 ≡ trail tos labels ways k q → held after (P.Some k) ≡ considered tos labels dists ways q (held best o)
+unfolding pick
+comes-in tos labels dists ways best q k dist after o h w = ap (λ (l : List ℕ). some l) w ∙ sym (considered-found tos labels dists ways q k (held best o) dist ∙ go o h)
+  where
+    go : (o : P.Option ℕ) → P.IfSome o (λ n. (k ≤ n) × (n ≡ k → precedes row_before (trail tos labels ways k q) (rows (λ i. get_or best i 0) k 0) ≡ true))
+        → pick (held best o) (trail tos labels ways k q) ≡ some (trail tos labels ways k q)
+    go P.None h = refl
+    go (P.Some n) h = comes_first tos labels dists ways best q k n dist h.0 h.1
 
 -- What a search for one class chooses
 
@@ -410,28 +400,28 @@ module _ (froms tos labels : List ℕ) (count : ℕ) (ends : ℕ → Bool) (sole
       go zero e = omega arith
       go (suc k) e = omega (arith, spread.bound q k e)
 
-  module _ (best : List ℕ) (holds : Holds best size) where
+  module _ (best : List ℕ) (o : P.Option ℕ) (is : size ≡ P.unwrap_or o 65535) where
     -- and one from a node that wasn't is no better than what was held
-    unfound-held : (q : ℕ) (ms : List ℕ) → dist_of s q ≡ 0 → Walk froms tos labels count ends q ms → NoBetter (held best size) ms
-    unfound-held q ms d w = go holds.fits
+    unfound-held : (q : ℕ) (ms : List ℕ) → dist_of s q ≡ 0 → Walk froms tos labels count ends q ms → NoBetter (held best o) ms
+    unfound-held q ms d w = go o is
       where
-        go : (size ≤ place_limit) ⊎ (size ≡ no_size) → NoBetter (held best size) ms
-        go (inl l) =
-            let e = rows-length (λ i. get_or best i 0) size 0 in
+        go : (o : P.Option ℕ) → size ≡ P.unwrap_or o 65535 → NoBetter (held best o) ms
+        go P.None e = absurd (spread.exhausted (omega arith) q d ms w)
+        go (P.Some n) e =
+            let l = rows-length (λ i. get_or best i 0) n 0 in
             let b = spread.beyond q d ms w in
-            subst (λ (x : Option (List ℕ)). NoBetter x ms) (sym (held-some best size l)) (omega arith, λ f. absurd (omega arith))
-        go (inr e) = absurd (spread.exhausted (omega arith) q d ms w)
+            (omega arith, λ f. absurd (omega arith))
 
     pub chosen-for : (classes : List ℕ) (cached c : ℕ)
-        → ChosenFor froms tos labels count classes cached c ends (held best size) (considered_all tos labels s.dists s.ways classes c cached 0 (held best size))
+        → ChosenFor froms tos labels count classes cached c ends (held best o) (considered_all tos labels s.dists s.ways classes c cached 0 (held best o))
     chosen-for classes cached c = record {
-      sound = λ ns e. from ns (all-from tos labels s.dists s.ways classes c cached 0 (held best size) ns e);
+      sound = λ ns e. from ns (all-from tos labels s.dists s.ways classes c cached 0 (held best o) ns e);
       all = λ q ms h k w. each q ms h k w (dist_of s q) refl;
-      still = λ ms b. all-still tos labels s.dists s.ways classes c cached 0 (held best size) ms b;
+      still = λ ms b. all-still tos labels s.dists s.ways classes c cached 0 (held best o) ms b;
     }
       where
-        from : (ns : List ℕ) → (held best size ≡ some ns) ⊎ ComesOf tos labels s.dists s.ways classes c cached 0 ns
-            → (held best size ≡ some ns) ⊎ ((q : ℕ) × (q < cached) × (get_or classes q 0 ≡ c) × Walk froms tos labels count ends q ns)
+        from : (ns : List ℕ) → (held best o ≡ some ns) ⊎ ComesOf tos labels s.dists s.ways classes c cached 0 ns
+            → (held best o ≡ some ns) ⊎ ((q : ℕ) × (q < cached) × (get_or classes q 0 ≡ c) × Walk froms tos labels count ends q ns)
         from ns (inl e) = inl e
         from ns (inr r) = inr (
           r.node,
@@ -441,11 +431,11 @@ module _ (froms tos labels : List ℕ) (count : ℕ) (ends : ℕ → Bool) (sole
         )
 
         each : (q : ℕ) (ms : List ℕ) → q < cached → get_or classes q 0 ≡ c → Walk froms tos labels count ends q ms → (d : ℕ) → dist_of s q ≡ d
-            → NoBetter (considered_all tos labels s.dists s.ways classes c cached 0 (held best size)) ms
-        each q ms h k w zero d = all-still tos labels s.dists s.ways classes c cached 0 (held best size) ms (unfound-held q ms d w)
+            → NoBetter (considered_all tos labels s.dists s.ways classes c cached 0 (held best o)) ms
+        each q ms h k w zero d = all-still tos labels s.dists s.ways classes c cached 0 (held best o) ms (unfound-held q ms d w)
         each q ms h k w (suc j) d =
-            better-on (considered_all tos labels s.dists s.ways classes c cached 0 (held best size)) (trail tos labels s.ways j q) ms
-            (all_new tos labels s.dists s.ways classes c cached 0 (held best size) q j (omega arith) (omega arith) k d) (found_first q j ms d w)
+            better-on (considered_all tos labels s.dists s.ways classes c cached 0 (held best o)) (trail tos labels s.ways j q) ms
+            (all_new tos labels s.dists s.ways classes c cached 0 (held best o) q j (omega arith) (omega arith) k d) (found_first q j ms d w)
 
 -- a table of zeros
 

@@ -1,13 +1,11 @@
 -- What the two searches leave is why the store of the tables doesn't agree, and so is what is listed of it.
-use mathlib.Core.Path.{◌≡◌, refl, sym, ap, ◌∙◌}
+use mathlib.Core.Path.{◌≡◌, sym, ap, ◌∙◌}
 use mathlib.Core.Bool.{true, false}
-use mathlib.Core.Option.{Option, none, some}
+use mathlib.Core.Option.{Option, none}
 use mathlib.Core.List.{List, ◌++◌}
-use mathlib.Core.Logic.{◌⊎◌, inl, inr}
 use Prim.Native.Nat.{min, ℕ, ◌+◌, ◌≤◌}
 use native.Mathlib.Omega.{arith}
 use lib.ListN.{get_or, set}
-use borrow.Author.Tests.{ne_eqb}
 use Rattle.definition.specs.Numbers.{cache_limit, tie_limit, subtype_limit, count_cache, count_ties, count_subtypes, tie_numbers_cell, subtype_numbers_cell}
 use Rattle.definition.specs.Lists.{rows, write_rows}
 use Rattle.definition.specs.declared.Reply.{Reply}
@@ -17,19 +15,15 @@ use Rattle.laws.specs.Earlier.{row_before}
 use Rattle.layout.specs.Places.{rows-length}
 use Rattle.rows.specs.Numbers.{numbers_fit}
 use Rattle.constraints.specs.Agreement.{super_in}
-use Rattle.constraints.specs.Nodes.{place_limit, AllNumbered, NodesOf, ClassesOf}
-use Rattle.constraints.specs.Choosing.{no_size, held, Holds, BestOf}
+use Rattle.constraints.specs.Nodes.{AllNumbered, NodesOf, ClassesOf}
+use Rattle.std.specs.Prelude as P
+use Rattle.constraints.specs.Choosing.{held, BestOf}
 use Rattle.constraints.specs.Linking.{Linked, Labelled, reason_in}
 use Rattle.constraints.proofs.Bridges.{best-reason}
 
 -- a count that is held to a limit is no more than it was
 pub at-most-low : (limit n : ℕ) → min n limit ≤ n
 at-most-low limit n = omega arith
-
--- the size of no chain
-pub held_none : (best : List ℕ) → held best no_size ≡ none
-unfolding held
-held_none best = refl
 
 -- the reason of so many rows
 abbrev reason_for : List ℕ → List ℕ → List ℕ → List ℕ → List ℕ → ℕ → ℕ → ℕ → Option (List ℕ)
@@ -69,28 +63,15 @@ unfolding listed
 list-unfit supers counts cache ties subtypes list h a = ap (λ (x : Option (List ℕ)). listed a x list) (sym (reason-unfit supers counts cache ties subtypes h))
 
 -- nor where no chain is kept
-pub list-none : (best list : List ℕ) (size : ℕ) (o : Option (List ℕ)) → size ≡ no_size → held best size ≡ o → (a : Reply) → tries a 0 list ≡ listed a o list
+pub list-none : (list : List ℕ) (o : Option (List ℕ)) → none ≡ o → (a : Reply) → tries a 0 list ≡ listed a o list
 unfolding listed
-list-none best list size o e h a = ap (λ (x : Option (List ℕ)). listed a x list) (sym (held_none best) ∙ ap (held best) (sym e) ∙ h)
+list-none list o h a = ap (λ (x : Option (List ℕ)). listed a x list) h
 
--- any other size is that of a chain
-held-some : (best : List ℕ) (size : ℕ) → (size ≡ no_size → ⊥) → held best size ≡ some (rows (λ i. get_or best i 0) size 0)
-unfolding held
-held-some best size h = rw (ne_eqb size no_size h, held)
-
--- which is listed as it was written
-pub list-some : (best list new : List ℕ) (size wide : ℕ) (o : Option (List ℕ)) → (size ≡ no_size → ⊥) → held best size ≡ o → wide ≡ size
+-- one is listed as it was written
+pub list-some : (best list new : List ℕ) (size wide : ℕ) (o : Option (List ℕ)) → held best (P.Some size) ≡ o → wide ≡ size
     → new ≡ write_rows set (rows (λ i. get_or best i 0) wide 0) 0 list → (a : Reply) → tries a size new ≡ listed a o list
 unfolding listed
-list-some best list new size wide o h e w q a =
+list-some best list new size wide o e w q a =
     let count : size ≡ _ = sym (rows-length (λ i. get_or best i 0) size 0) in
     let cells : new ≡ write_rows set (rows (λ i. get_or best i 0) size 0) 0 list = q ∙ ap (λ (x : ℕ). write_rows set (rows (λ i. get_or best i 0) x 0) 0 list) w in
-    (λ i. tries a (count i) (cells i)) ∙ ap (λ (x : Option (List ℕ)). listed a x list) (sym (held-some best size h) ∙ e)
-
--- and there was room for it
-pub held_fits : {best : List ℕ} {size : ℕ} → Holds best size → (size ≡ no_size → ⊥) → size ≤ place_limit
-held_fits {best} {size} h d = go h.fits
-  where
-    go : (size ≤ place_limit) ⊎ (size ≡ no_size) → size ≤ place_limit
-    go (inl l) = l
-    go (inr e) = absurd (d e)
+    (λ i. tries a (count i) (cells i)) ∙ ap (λ (x : Option (List ℕ)). listed a x list) e

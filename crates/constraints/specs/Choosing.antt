@@ -1,5 +1,6 @@
 -- The chain that is kept of those that searches find: the shortest, and of those the one whose row goes first at the earliest difference.
 use Rattle.std.specs.Prelude.{◌≡◌, Bool, true, false, ◌&&◌, List, [], ◌∷◌, ◌⊎◌, ℕ, zero, suc, ◌<◌, ◌≤◌, length, get_or, eqb, ltb}
+use Rattle.std.specs.Prelude as P
 use Rattle.std.proofs.Math.Option.{Option, none, some}
 use Rattle.definition.specs.Lists.{rows}
 use Rattle.definition.specs.Reasons.{precedes}
@@ -7,18 +8,15 @@ use Rattle.laws.specs.Earlier.{row_before}
 use Rattle.constraints.specs.Nodes.{place_limit}
 use Rattle.constraints.specs.Walks.{Walk, trail, bad_over, ends_over}
 
--- no chain yet, as a size
-abbrev pub no_size : ℕ
-no_size = 65535
-
--- the chain in the first cells of a table
-unfoldable pub held : List ℕ → ℕ → Option (List ℕ)
-held best size = elim (eqb size no_size) [ true ↦ none | false ↦ some (rows (λ i. get_or best i 0) size 0) ]
+-- the chain in the first cells of a table, if there is one, of a size
+abbrev pub held : List ℕ → P.Option ℕ → Option (List ℕ)
+held best P.None = none
+held best (P.Some size) = some (rows (λ i. get_or best i 0) size 0)
 
 -- a table with room for a chain, and a size
-pub record Holds (best : List ℕ) (size : ℕ) : Type 0 where
+pub record Holds (best : List ℕ) (size : P.Option ℕ) : Type 0 where
   pub long : length best ≡ place_limit
-  pub fits : (size ≤ place_limit) ⊎ (size ≡ no_size)
+  pub fits : P.IfSome size (λ n. n ≤ place_limit)
 
 unfoldable pub pick : Option (List ℕ) → List ℕ → Option (List ℕ)
 pick none t = some t
@@ -63,9 +61,10 @@ module _ (froms tos labels : List ℕ) (count : ℕ) (classes : List ℕ) (cache
 
 -- Rows that break agreement by themselves
 
--- one row is kept, or none
-abbrev pub OneSize : ℕ → Type 0
-OneSize size = (size ≡ 1) ⊎ (size ≡ no_size)
+-- a row that is kept, if there is one, as a chain
+abbrev pub one_row : P.Option ℕ → Option (List ℕ)
+one_row P.None = none
+one_row (P.Some row) = some (row ∷ [])
 
 -- link e leads from a cached request to one whose class is bad for its own
 unfoldable pub alone : List ℕ → List ℕ → List ℕ → ℕ → Bool → (ℕ → Option ℕ) → ℕ → Bool

@@ -17,9 +17,6 @@ use crate::upward::mark_above;
 use cells::{at, put};
 use definition::numbers::BYTE_RANGE;
 
-// No chain yet, as a size.
-pub(crate) const NO_SIZE: u16 = 65535;
-
 // The k rows from a node on go before the first k cells of a table.
 fn goes_before(
     tos: &[u16],
@@ -60,7 +57,7 @@ fn write_trail(tos: &[u16], labels: &[u16], ways: &[u16], node: usize, k: usize,
     }
 }
 
-// The chain from a node is kept if it was found and is better than the one that is held. Answers the new size.
+// The chain from a node is kept if it was found and is better than the one that is held, if one is. Answers the new size.
 fn consider(
     tos: &[u16],
     labels: &[u16],
@@ -68,8 +65,8 @@ fn consider(
     ways: &[u16],
     node: usize,
     best: &mut [u16],
-    size: u16,
-) -> u16
+    size: Option<u16>,
+) -> Option<u16>
     requires { Holds best.old size × (get_or dists.now node 0 ≤ place_limit + 1) }
     ensures { Holds best.new result × (held best.new result ≡ considered tos.now labels.now dists.now ways.now node (held best.old size)) }
 {
@@ -78,14 +75,16 @@ fn consider(
         return size;
     }
     let k = dist - 1;
-    if size < k {
-        return size;
-    }
-    if size == k && !goes_before(tos, labels, ways, node, usize::from(k), best) {
-        return size;
+    if let Some(held) = size {
+        if held < k {
+            return size;
+        }
+        if held == k && !goes_before(tos, labels, ways, node, usize::from(k), best) {
+            return size;
+        }
     }
     write_trail(tos, labels, ways, node, usize::from(k), best);
-    k
+    Some(k)
 }
 
 // The same of each cached request of class c.
@@ -98,8 +97,8 @@ fn consider_all(
     cached: usize,
     c: u16,
     best: &mut [u16],
-    size: u16,
-) -> u16
+    size: Option<u16>,
+) -> Option<u16>
     requires { Holds best.old size × ((q : ℕ) → get_or dists.now q 0 ≤ place_limit + 1) }
     ensures { Holds best.new result × (held best.new result ≡ considered_all tos.now labels.now dists.now ways.now classes.now c cached 0 (held best.old size)) }
 {
@@ -127,8 +126,8 @@ pub(crate) fn search_class(
     only: bool,
     c: u16,
     best: &mut [u16],
-    size: u16,
-) -> u16
+    size: Option<u16>,
+) -> Option<u16>
     requires { (cached ≤ place_limit) × Joint froms.now tos.now count heads.now nexts.now × Holds best.old size × Sole froms.now tos.now labels.now count }
     ensures { Holds best.new result × ChosenFor froms.now tos.now labels.now count classes.now cached c (ends_in only aboves.now stamp classes.now cached c) (held best.old size) (held best.new result) }
 {
@@ -138,8 +137,9 @@ pub(crate) fn search_class(
     let seeds = seed(
         classes, cached, aboves, stamp, only, c, &mut dists, &mut queue,
     );
+    let limit = size.unwrap_or(u16::MAX);
     spread(
-        froms, tos, labels, count, heads, nexts, size, &mut dists, &mut ways, &mut queue, seeds,
+        froms, tos, labels, count, heads, nexts, limit, &mut dists, &mut ways, &mut queue, seeds,
     );
     consider_all(tos, labels, &dists, &ways, classes, cached, c, best, size)
 }
@@ -164,8 +164,8 @@ pub(crate) fn search_all(
     count: usize,
     only: bool,
     best: &mut [u16],
-    size: u16,
-) -> u16
+    size: Option<u16>,
+) -> Option<u16>
     requires { (cached ≤ cache_limit) × InRange froms.now tos.now count × Holds best.old size × Sole froms.now tos.now labels.now count }
     ensures { Holds best.new result × Chosen froms.now tos.now labels.now count classes.now cached only (super_in supers.now) (held best.old size) (held best.new result) }
 {

@@ -11,7 +11,7 @@ ghost use Rattle.constraints.specs.Agreement.{super_in};
 ghost use Rattle.rows.specs.Numbers.{numbers_fit};
 ghost use Rattle.constraints.specs.Linking.{reason_in};
 
-use crate::choosing::{NO_SIZE, search_all};
+use crate::choosing::search_all;
 use crate::linking::{LINK_LIMIT, label_links, link_nodes};
 use crate::numbering::{PLACE_LIMIT, at_most, list_classes, number_nodes, number_places};
 use crate::singles::first_alone;
@@ -19,7 +19,7 @@ use cells::{at, put};
 use definition::numbers::{CACHE_LIMIT, COUNT_CACHE, COUNT_SUBTYPES, COUNT_TIES};
 use rows::numbers_fit;
 
-// The best chain by links between cached requests, of which the first `turned` are ties, into a table. Answers its size. A row that breaks agreement by itself is looked
+// The best chain by links between cached requests, of which the first `turned` are ties, into a table. Answers its size, if there is one. A row that breaks agreement by itself is looked
 // for first, since no chain is shorter; then chains by ties alone, and by all links.
 fn search_links(
     supers: &[u8],
@@ -31,28 +31,29 @@ fn search_links(
     turned: usize,
     count: usize,
     best: &mut [u16],
-) -> u16
+) -> Option<u16>
     requires { (cached ≤ cache_limit) × (turned ≤ count) × InRange froms.now tos.now count × Sole froms.now tos.now labels.now count × (length best.old ≡ place_limit) }
     ensures { Holds best.new result × BestOf froms.now tos.now labels.now turned count classes.now cached (super_in supers.now) (held best.new result) }
 {
     let tie = first_alone(
-        supers, classes, cached, froms, tos, labels, turned, true, best, NO_SIZE,
+        supers, classes, cached, froms, tos, labels, turned, true, None,
     );
     let row = first_alone(
-        supers, classes, cached, froms, tos, labels, count, false, best, tie,
+        supers, classes, cached, froms, tos, labels, count, false, tie,
     );
-    if row == 1 {
-        return row;
+    if let Some(row) = row {
+        put(best, 0, row);
+        return Some(1);
     }
     let tied = search_all(
-        supers, classes, cached, froms, tos, labels, turned, true, best, NO_SIZE,
+        supers, classes, cached, froms, tos, labels, turned, true, best, None,
     );
     search_all(
         supers, classes, cached, froms, tos, labels, count, false, best, tied,
     )
 }
 
-// The best chain of the store of these tables, into a table. Answers its size.
+// The best chain of the store of these tables, if there is one, into a table. Answers its size.
 fn best_chain(
     supers: &[u8],
     counts: &[u16],
@@ -60,7 +61,7 @@ fn best_chain(
     ties: &[u16],
     subtypes: &[u16],
     best: &mut [u16],
-) -> u16
+) -> Option<u16>
     requires { (numbers_fit counts.now ≡ true) × (length best.old ≡ place_limit) }
     ensures { Holds best.new result × (held best.new result ≡ reason_in supers.now counts.now cache.now ties.now subtypes.now) }
 {
@@ -124,10 +125,9 @@ pub fn reason(
         return 0;
     }
     let mut best = [0u16; PLACE_LIMIT];
-    let size = best_chain(supers, counts, cache, ties, subtypes, &mut best);
-    if size == NO_SIZE {
+    let Some(size) = best_chain(supers, counts, cache, ties, subtypes, &mut best) else {
         return 0;
-    }
+    };
     write_list(&best, usize::from(size), list);
     size
 }

@@ -1,14 +1,13 @@
 // Rows that break agreement by themselves: no chain is shorter, and most clashes have one.
-ghost use Rattle.std.specs.Prelude.{◌≡◌, ◌≤◌, length};
-ghost use Rattle.constraints.specs.Nodes.{place_limit};
+ghost use Rattle.std.specs.Prelude.{◌≡◌};
 ghost use Rattle.constraints.specs.Agreement.{super_in};
 ghost use Rattle.constraints.specs.Walks.{bad_over};
-ghost use Rattle.constraints.specs.Choosing.{held, alone, OneSize, considered_alone, Alone};
+ghost use Rattle.constraints.specs.Choosing.{alone, one_row, considered_alone, Alone};
 
 use crate::joining::place;
 use crate::order::comes_first;
 use crate::upward::is_below;
-use cells::{at, put};
+use cells::at;
 
 // Class d is bad for class c.
 fn is_bad_for(supers: &[u8], only: bool, c: usize, d: usize) -> bool
@@ -37,7 +36,7 @@ fn breaks_alone(
     is_bad_for(supers, only, place(classes, a), place(classes, b))
 }
 
-// Its row is kept if it goes before the one that is.
+// Its row is kept if there is none yet that goes before it.
 fn consider_alone(
     supers: &[u8],
     classes: &[u16],
@@ -47,24 +46,23 @@ fn consider_alone(
     labels: &[u16],
     only: bool,
     e: usize,
-    best: &mut [u16],
-    size: u16,
-) -> u16
-    requires { OneSize size × (length best.old ≡ place_limit) }
-    ensures { OneSize result × (held best.new result ≡ considered_alone froms.now tos.now labels.now classes.now cached only (super_in supers.now) e (held best.old size)) }
+    kept: Option<u16>,
+) -> Option<u16>
+    ensures { one_row result ≡ considered_alone froms.now tos.now labels.now classes.now cached only (super_in supers.now) e (one_row kept) }
 {
     if !breaks_alone(supers, classes, cached, froms, tos, only, e) {
-        return size;
+        return kept;
     }
-    let label = at(labels, e);
-    if size == 1 && !comes_first(label, at(best, 0)) {
-        return size;
+    let row = at(labels, e);
+    if let Some(other) = kept {
+        if !comes_first(row, other) {
+            return kept;
+        }
     }
-    put(best, 0, label);
-    1
+    Some(row)
 }
 
-// The first such row of these links, or of those before. Answers the size.
+// The first such row of these links, or of those before.
 pub(crate) fn first_alone(
     supers: &[u8],
     classes: &[u16],
@@ -74,17 +72,13 @@ pub(crate) fn first_alone(
     labels: &[u16],
     count: usize,
     only: bool,
-    best: &mut [u16],
-    size: u16,
-) -> u16
-    requires { (count ≤ place_limit) × OneSize size × (length best.old ≡ place_limit) }
-    ensures { OneSize result × Alone froms.now tos.now labels.now classes.now cached only (super_in supers.now) count count (held best.old size) (held best.new result) }
+    before: Option<u16>,
+) -> Option<u16>
+    ensures { Alone froms.now tos.now labels.now classes.now cached only (super_in supers.now) count count (one_row before) (one_row result) }
 {
-    let mut kept = size;
+    let mut kept = before;
     for e in 0..count {
-        kept = consider_alone(
-            supers, classes, cached, froms, tos, labels, only, e, best, kept,
-        );
+        kept = consider_alone(supers, classes, cached, froms, tos, labels, only, e, kept);
     }
     kept
 }

@@ -10,8 +10,7 @@ use lib.ListN.{length, get_elem?}
 use lib.Dec.{eqb}
 use borrow.Author.Tests.{eq-eqb, ne_eqb}
 use Rattle.definition.specs.Lists.{rows}
-use Rattle.definition.specs.Constraints.{Tie, Subtype}
-use Rattle.definition.specs.Tables.{RowNumbers, row_numbers, Rows}
+use Rattle.definition.specs.Tables.{Rows}
 use Rattle.definition.specs.Calls.{numbers_from}
 use Rattle.layout.specs.Tests.{All, all_more}
 use Rattle.layout.specs.Whole.{Numbering}

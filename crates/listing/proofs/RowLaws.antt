@@ -4,9 +4,9 @@ use mathlib.Core.Path.{◌≡◌, refl, sym, ap, subst, ◌∙◌}
 use mathlib.Core.Bool.{Bool, true, false, false≢true}
 use mathlib.Core.Option.{Option, none, some, some-injective}
 use mathlib.Core.List.Memᴰ
-use mathlib.Core.List.{List, [], ◌∷◌, ◌++◌, map, Memᴰ}
+use mathlib.Core.List.{List, [], ◌∷◌, map, Memᴰ}
 use mathlib.Core.Logic.{◌⊎◌, inl, inr}
-use Prim.Native.Nat.{ℕ, zero, suc, ◌+◌, ◌≤◌, ◌<◌}
+use Prim.Native.Nat.{ℕ, suc, ◌+◌, ◌<◌}
 use native.Mathlib.Omega.{arith}
 use lib.ListN.{length}
 use lib.Dec.{eqb}
@@ -15,11 +15,11 @@ use Rattle.definition.specs.Lists.{is_some}
 use Rattle.definition.specs.Requests.{Request, at}
 use Rattle.definition.specs.Loading.{with_entry}
 use Rattle.definition.specs.Constraints.{Tie, Subtype, World}
-use Rattle.definition.specs.Tables.{Tables, RowNumbers, Rows, world_of, view}
+use Rattle.definition.specs.Tables.{Tables, RowNumbers, world_of, view}
 use Rattle.definition.specs.Broken.{broken, numbered}
 use Rattle.definition.specs.Calls.{Load, load_record, numbered_on}
-use Rattle.definition.specs.Reasons.{Link, link, tie_links, subtype_links, links, Upward, Breaks, after_load}
-use Rattle.layout.specs.InTurn.{InWords, in-turn-words}
+use Rattle.definition.specs.Reasons.{Link, link, tie_links, subtype_links, links, Upward, Breaks}
+use Rattle.layout.specs.InTurn.{in-turn-words}
 use Rattle.layout.specs.NumberedRows.{none-numbered-on}
 use Rattle.layout.specs.Unbroken.{broken-false}
 use Rattle.unbroken.specs.Tried.{Lists}

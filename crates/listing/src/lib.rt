@@ -1,13 +1,13 @@
 // A row of constraints by its number, as the tries list them: what it says.
 #![tactic(auto)]
 
-ghost use Rattle.std.specs.Prelude.{◌≡◌, ℕ, ◌<◌};
+ghost use Rattle.std.specs.Prelude.{◌≡◌, ℕ, ◌<◌, MatchOption};
 ghost use Rattle.definition.specs.Numbers.{short_range};
 ghost use Rattle.definition.specs.Lists.{rows};
-ghost use Rattle.definition.specs.Answers.{ok};
 ghost use Rattle.definition.specs.Tables.{tables, tie_at, subtype_at, number_at};
-ghost use Rattle.definition.specs.Listing.{Row, tie_row, subtype_row, row_numbered, stored_row};
-ghost use Rattle.listing.specs.Answers.{listed_of, row_at, cells_row};
+ghost use Rattle.definition.specs.Listing;
+ghost use Rattle.definition.specs.Listing.{tie_row, subtype_row, row_numbered, stored_row};
+ghost use Rattle.listing.specs.Answers.{listed_of, row_of, row_at, cells_row};
 
 use cells::at;
 use definition::Refusal;
@@ -16,48 +16,41 @@ use definition::numbers::{
     WORD_UNKNOWN,
 };
 
-// What is said of a number: a refusal; a tie, by its two loaders and the name; a subtype constraint, by its loader, the lower name and the higher.
+// What a row says: a tie, by its two loaders and the name, or a subtype constraint, by its loader, the lower name and the higher.
 #[derive(Clone, Copy)]
-pub enum Listed {
-    Denied(Refusal),
+pub enum Constraint {
     Tied(u16, u16, u16),
     Below(u16, u16, u16),
 }
 
-// Which of n rows has that number, where their numbers begin at cell `first`; n where none has it.
-fn find_number(counts: &[u16], first: usize, n: u16, number: u32) -> usize
+// Which of n rows has that number, where their numbers begin at cell `first`.
+fn find_number(counts: &[u16], first: usize, n: u16, number: u32) -> Option<usize>
     requires { first < short_range }
-    ensures { (g : ℕ → Row) → row_numbered (rows g n 0) (rows (number_at first counts.now) n 0) number ≡ row_at g n result }
+    ensures found { (g : ℕ → Listing.Row) → row_numbered (rows g n 0) (rows (number_at first counts.now) n 0) number ≡ row_at g result }
+    ensures within { MatchOption result (Unit {0}) (λ i. i < n) }
 {
-    let end = usize::from(n);
-    let mut i = 0;
-    while i < end {
+    for i in 0..usize::from(n) {
         if u32::from(at(counts, first + i)) == number {
-            return i;
+            return Some(i);
         }
-        i += 1;
     }
-    end
+    None
 }
 
-fn tied(ties: &[u16], i: usize) -> Listed
+fn tied(ties: &[u16], i: usize) -> Constraint
     requires { i < short_range }
-    ensures { listed_of result ≡ ok (tie_row (tie_at ties.now i)) }
+    ensures { row_of result ≡ tie_row (tie_at ties.now i) }
 {
     let place = i * ROW_CELLS;
-    Listed::Tied(
-        at(ties, place),
-        at(ties, place + 1),
-        at(ties, place + 2),
-    )
+    Constraint::Tied(at(ties, place), at(ties, place + 1), at(ties, place + 2))
 }
 
-fn below(subtypes: &[u16], i: usize) -> Listed
+fn below(subtypes: &[u16], i: usize) -> Constraint
     requires { i < short_range }
-    ensures { listed_of result ≡ ok (subtype_row (subtype_at subtypes.now i)) }
+    ensures { row_of result ≡ subtype_row (subtype_at subtypes.now i) }
 {
     let place = i * ROW_CELLS;
-    Listed::Below(
+    Constraint::Below(
         at(subtypes, place),
         at(subtypes, place + 1),
         at(subtypes, place + 2),
@@ -65,20 +58,22 @@ fn below(subtypes: &[u16], i: usize) -> Listed
 }
 
 // The row of that number of these tables, by their counts and the numbers behind those.
-pub fn row_of_cells(counts: &[u16], ties: &[u16], subtypes: &[u16], number: u32) -> Listed
+pub fn row_of_cells(
+    counts: &[u16],
+    ties: &[u16],
+    subtypes: &[u16],
+    number: u32,
+) -> Result<Constraint, Refusal>
     ensures { listed_of result ≡ cells_row counts.now ties.now subtypes.now number }
 {
-    let tie_count = at(counts, COUNT_TIES);
+    if let Some(i) = find_number(counts, TIE_NUMBERS_CELL, at(counts, COUNT_TIES), number) {
+        return Ok(tied(ties, i));
+    }
     let subtype_count = at(counts, COUNT_SUBTYPES);
-    let t = find_number(counts, TIE_NUMBERS_CELL, tie_count, number);
-    if t < usize::from(tie_count) {
-        return tied(ties, t);
-    }
-    let s = find_number(counts, SUBTYPE_NUMBERS_CELL, subtype_count, number);
-    if s < usize::from(subtype_count) {
-        return below(subtypes, s);
-    }
-    Listed::Denied(Refusal::Word(WORD_UNKNOWN))
+    let Some(i) = find_number(counts, SUBTYPE_NUMBERS_CELL, subtype_count, number) else {
+        return Err(Refusal::Word(WORD_UNKNOWN));
+    };
+    Ok(below(subtypes, i))
 }
 
 // A stored row. Refusals: 1 3
@@ -92,13 +87,13 @@ pub fn row(
     objects: &[u32],
     frames: &[u32],
     number: u32,
-) -> Listed
+) -> Result<Constraint, Refusal>
     ensures { listed_of result ≡ stored_row number (tables counts.now classes.now kept.now cache.now ties.now subtypes.now objects.now frames.now) }
 {
     if store::is_broken(
         counts, classes, kept, cache, ties, subtypes, objects, frames,
     ) {
-        return Listed::Denied(Refusal::Word(WORD_BROKEN));
+        return Err(Refusal::Word(WORD_BROKEN));
     }
     row_of_cells(counts, ties, subtypes, number)
 }

@@ -10,10 +10,7 @@ fn is_dead(counts: &[u16], marks: &[u8], o: u16) -> bool
     ensures { result ≡ dead marks.now counts.now o }
 {
     let row = usize::from(o);
-    if cells::at(counts, OWNERS_CELL + row) == 0 {
-        return false;
-    }
-    cells::at(marks, row) == 0
+    cells::at(counts, OWNERS_CELL + row) != 0 && cells::at(marks, row) == 0
 }
 
 // How many are freed.
@@ -22,13 +19,11 @@ pub(crate) fn free_unmarked(counts: &mut [u16], marks: &[u8]) -> u16
 {
     let rows = cells::at(counts, COUNT_OBJECTS);
     let mut number: u16 = 0;
-    let mut o: u16 = 0;
-    while o < rows {
+    for o in 0..rows {
         if is_dead(counts, marks, o) {
             cells::put(counts, OWNERS_CELL + usize::from(o), 0);
             number += 1;
         }
-        o += 1;
     }
     number
 }

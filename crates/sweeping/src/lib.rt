@@ -37,13 +37,11 @@ pub fn sweep(
 ) -> Reply
     ensures { done result (tables counts.new classes.now kept.now cache.now ties.now subtypes.now objects.now frames.now) ≡ perform call_sweep (tables counts.old classes.now kept.now cache.now ties.now subtypes.now objects.now frames.now) }
 {
-    let tested = store::class_sizes(
+    let Some(sizes) = store::class_sizes(
         counts, classes, kept, cache, ties, subtypes, objects, frames,
-    );
-    if tested.broken {
+    ) else {
         return Reply::Denied(Refusal::Word(WORD_BROKEN));
-    }
-    let sizes = tested.fields;
+    };
     let mut marks = [0u8; OBJECT_LIMIT as usize];
     mark_reached(&mut marks, &sizes, counts, objects, frames);
     let freed = free_unmarked(counts, &marks);

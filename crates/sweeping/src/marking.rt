@@ -56,11 +56,9 @@ fn mark_values(
     ensures { work marks.new list.new result ≡ mark_all (work marks.old list.old n) (named (rows (value_from table.now first) count 0)) }
 {
     let mut size = n;
-    let mut i: u8 = 0;
-    while i < count {
+    for i in 0..count {
         let place = first + VALUE_CELLS * usize::from(i);
         size = mark_value(marks, list, size, table, place);
-        i += 1;
     }
     size
 }
@@ -77,11 +75,9 @@ fn mark_operands(
     ensures { work marks.new list.new result ≡ mark_all (work marks.old list.old n) (named (stack (operand_at frames.now b) depth)) }
 {
     let mut size = n;
-    let mut i = depth;
-    while 0 < i {
-        let place = b as usize + (OPERANDS_CELL + VALUE_CELLS * (i - 1) as usize);
+    for i in (0..depth).rev() {
+        let place = b as usize + (OPERANDS_CELL + VALUE_CELLS * i as usize);
         size = mark_value(marks, list, size, frames, place);
-        i -= 1;
     }
     size
 }
@@ -115,16 +111,9 @@ fn mark_frames(
 {
     let first = u32::from(task) * TASK_ROWS;
     let mut size = n;
-    let mut i = cells::at(counts, COUNT_FRAMES + usize::from(task));
-    while 0 < i {
-        size = mark_frame(
-            marks,
-            list,
-            size,
-            frames,
-            (first + u32::from(i - 1)) * ROW_SIZE,
-        );
-        i -= 1;
+    let count = cells::at(counts, COUNT_FRAMES + usize::from(task));
+    for i in (0..count).rev() {
+        size = mark_frame(marks, list, size, frames, (first + u32::from(i)) * ROW_SIZE);
     }
     size
 }
@@ -152,7 +141,7 @@ fn mark_fields(
     )
 }
 
-// The work list, from its first object to the last that is put on it.
+// The work list, from its first object to the last that is put on it: it grows while it is gone through.
 fn follow_fields(marks: &mut [u8], list: &mut [u32], n: u16, sizes: &[u8], objects: &[u32]) -> u16
     requires { n ≤ object_limit }
     ensures { work marks.new list.new result ≡ follow (field_names sizes.now objects.now) object_limit 0 (work marks.old list.old n) }

@@ -14,6 +14,7 @@ use definition::numbers::{
 use definition::{Refusal, Reply};
 
 // The counts of row i of the trace, and as many loads as lie below it.
+#[tactic(auto, unfolding(crate::specs::Back::back_to, definition::specs::Tables::level_at))]
 fn take_level(counts: &mut [u16], i: u16)
     ensures { counts.new ≡ back_to (level_at counts.old i) i counts.old }
 {

@@ -1,4 +1,6 @@
 -- Posting the notes of a walk, step by step: what comes first is posted first, and a rejection ends it. What callers learn from the answer and the rows.
+use Rattle.std.specs.Prelude.{Result, Ok, Err, IsErrAnd}
+use Rattle.std.proofs.lemmas.Result.{err_from_is_err_and}
 use mathlib.Core.Path.{◌≡◌, refl, sym, ap, ◌∙◌}
 use mathlib.Core.Bool.{Bool, true, false}
 use mathlib.Core.Option.{none, some}
@@ -77,3 +79,7 @@ module _ (l : ℕ) (w : Trace) (k r : Noted) where
   pub rejected-says : verification false r ≡ posting l w k → accepted_notes w ≡ none
   unfolding granted
   rejected-says e = answer-says false e
+
+-- what the exit of a `?` returns
+pub exits : {T E : Type 0} (r : Result T E) (e : E) → IsErrAnd r (λ y. y ≡ e) → r ≡ Err e
+exits r e h = let p = err_from_is_err_and r h in rw (p.1, p.2) refl

@@ -14,22 +14,20 @@ use Rattle.definition.specs.Instructions.{Decoded, decode, pick}
 use Rattle.definition.specs.Classes.{Map, Method}
 use Rattle.definition.specs.Lists.{any, is_none, to_list}
 use Rattle.definition.specs.Verifier.{TypeState, map_at, maps_past, target, goes_on, unmapped_from}
-use Rattle.std.specs.Option as M
+use Rattle.std.specs.Prelude as M
 use Rattle.cells.specs.Optional.{optional}
 use Rattle.layout.specs.Places.{rows_step, rows_none, rows_start}
 use Rattle.classfile.specs.Reading.{file_version, class_name, maps_of, code_at, map_bytes, method_at, method_in, method_count, methods_from, quick_methods}
 use Rattle.rows.specs.Posting.{Noted}
 use Rattle.verifier.specs.declared.places.Check.{Check}
 use Rattle.verifier.specs.declared.places.Check.TheVariants.{Types}
-use Rattle.verifier.specs.declared.turns.Step.{Step}
-use Rattle.verifier.specs.declared.turns.Step.TheVariants.{Stop, End, Next}
 use Rattle.verifier.specs.Lookups.{lacking}
 use Rattle.verifier.specs.Types.{entry_of}
 use Rattle.verifier.specs.Trace.{Onward, refused, accepted, onto, onward, Turned, into_turn, turned, Turning, turning, taking}
 use Rattle.verifier.specs.Answers.{next_of}
 use Rattle.definition.specs.Places.{lacks_from, lacks_at, place, first_place}
 use Rattle.verifier.specs.Stops.{stop_at_end, stopping, stops, whole_stop, check_point, check_in}
-use Rattle.verifier.proofs.WalkLaws.{Bound, into-bound}
+use Rattle.verifier.proofs.WalkLaws.{Bound, into-bound, to-start}
 
 -- where a turn goes, whatever is posted
 pub next-is : (l : ℕ) (t : Turned) (o : Onward) (j k : Noted) → turning o j ≡ taking l t k → t.next ≡ o
@@ -80,32 +78,26 @@ at-end n more b e = rw e refl
 
 -- The flow from entry goes to point 0 or nowhere
 
-module _ (version own : ℕ) (g : Signature) (code : List ℕ) (maps : List Map) (s u : TypeState) (t : Step) (z : s ≡ entry_of own g)
-    (e : (into_turn (length code) maps 0 s).next ≡ next_of t u) where
-  goes : Bound 0 (next_of t u)
+module _ (version own : ℕ) (g : Signature) (code : List ℕ) (maps : List Map) (s : TypeState) (o : Onward) (z : s ≡ entry_of own g)
+    (e : (into_turn (length code) maps 0 s).next ≡ o) where
+  goes : Bound 0 o
   goes = subst (λ (x : Onward). Bound 0 x) e (into-bound (length code) maps 0 s)
 
   entered : check_point Types version own g code maps
-      ≡ onward (next_of t u) (some 0) (stop_at_end (length code) maps) (λ q x. stops version code maps g.result (length code) q maps x)
+      ≡ onward o (some 0) (stop_at_end (length code) maps) (λ q x. stops version code maps g.result (length code) q maps x)
   unfolding check_point whole_stop stopping
   entered =
       rw (← z)
       (ap (λ (x : Onward). onward x (some 0) (stop_at_end (length code) maps) (λ q y. stops version code maps g.result (length code) q maps y)) e)
 
-  pub entry-on : (q : ℕ) → t ≡ Next q → (r : Option ℕ) → r ≡ stops version code maps g.result (length code) 0 maps u → r ≡ check_point Types version own g code maps
-  unfolding onward next_of
-  entry-on q h r a = let o : q ≡ 0 = rw h at goes in a ∙ sym (entered ∙ rw (h, o) refl)
+  pub entry-on : (t : M.Option ℕ) (u : TypeState) → o ≡ next_of t u → (r : Option ℕ) → r ≡ stops version code maps g.result (length code) 0 maps u
+      → r ≡ check_point Types version own g code maps
+  unfolding onward
+  entry-on t u h r a = a ∙ sym (entered ∙ rw (h ∙ to-start t u (rw h at goes)) refl)
 
-  pub entry-stop : t ≡ Stop → some 0 ≡ check_point Types version own g code maps
-  unfolding onward next_of
+  pub entry-stop : o ≡ refused → some 0 ≡ check_point Types version own g code maps
+  unfolding onward
   entry-stop h = sym (entered ∙ rw h refl)
-
-  never : t ≡ End → ⊥
-  unfolding next_of
-  never h = rw h at goes
-
-  pub entry-end : t ≡ End → (r : Option ℕ) → r ≡ check_point Types version own g code maps
-  entry-end h r = absurd (never h)
 
 -- The test for a map that is lacking
 

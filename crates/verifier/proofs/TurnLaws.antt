@@ -107,22 +107,18 @@ module _ (n : ℕ) (maps : List Map) (i : Instruction) (q : ℕ) (s : TypeState)
 -- What an instruction leaves: its own notes, then the flows
 
 module _ (n : ℕ) (maps : List Map) (i : Instruction) (q : ℕ) (c : Change) where
-  pub change-unfit : c.fits ≡ false → turned_to n maps i q (change_of c) ≡ bound refused
-  unfolding turned_to change_of pick
-  change-unfit e = rw e refl
-
   abbrev values : Trace
   values = values_trace c.types.operands c.place c.names
 
   -- the receiver's note is posted, then those of the values
-  pub change-fits : (l : ℕ) (k : Noted) → c.fits ≡ true → (a b : Noted) (y : Bool) → a ≡ post_notes l (made c.receiver) k → verification y b ≡ posting l values a
-      → (r : Turning) → r ≡ taking l (flowing n maps i q (types_of c.types)) b → r ≡ taking l (turned_to n maps i q (change_of c)) k
-  unfolding turned_to change_of pick posting
-  change-fits l k e a b y ea eb r h =
+  pub change-fits : (l : ℕ) (k a b : Noted) → a ≡ post_notes l (made c.receiver) k → b ≡ post_notes l values.notes a
+      → (r : Turning) → r ≡ taking l (flowing n maps i q (types_of c.types)) b → r ≡ taking l (turned_to n maps i q (change_of (P.Some c))) k
+  unfolding turned_to change_of posting
+  change-fits l k a b ea eb r h =
       let own : List Note = made c.receiver ++ values.notes in
       let rest : Turned = flowing n maps i q (types_of c.types) in
-      let both : post_notes l own k ≡ b = post-append l (made c.receiver) values.notes k ∙ (ap (post_notes l values.notes) (sym ea) ∙ sym (rows-say l values a b y eb)) in
-      rw e (h ∙ sym (taking-once-on l (record { notes = own; accepts = true }) k rest refl ∙ ap (taking l rest) both))
+      let both : post_notes l own k ≡ b = post-append l (made c.receiver) values.notes k ∙ (ap (post_notes l values.notes) (sym ea) ∙ sym eb) in
+      h ∙ sym (taking-once-on l (record { notes = own; accepts = true }) k rest refl ∙ ap (taking l rest) both)
 
 -- The whole turn, by what decoding answers
 

@@ -16,8 +16,6 @@ use Rattle.classfile.specs.Reading.{map_count, map_numbered, maps_of}
 use Rattle.rows.specs.Posting.{Noted, post_notes}
 use Rattle.std.specs.Prelude as P
 use Rattle.verifier.specs.declared.methods.Ahead.{Ahead}
-use Rattle.verifier.specs.declared.turns.Step.{Step}
-use Rattle.verifier.specs.declared.turns.Step.TheVariants.{Stop, End, Next}
 use Rattle.verifier.specs.Types.{entry_of}
 use Rattle.verifier.specs.Trace.{Trace, refusing, accepting, meet_trace, bound, once, into_turn, whole_trace, method_trace, Onward, refused, accepted, onto, onward, Turned, turned, proceed, trace, left_from, Verification, verification, posting, Turning, turning, taking}
 use Rattle.verifier.specs.Answers.{next_of, PlaceOf, Passes}
@@ -105,6 +103,12 @@ Bound q refused = Unit {0}
 Bound q accepted = ⊥
 Bound q (onto r u) = r ≡ q
 
+-- what goes on, does so at point 0
+pub to-start : (t : P.Option ℕ) (u : TypeState) → Bound 0 (next_of t u) → next_of t u ≡ onto 0 u
+unfolding next_of
+to-start P.None u b = absurd b
+to-start (P.Some q) u b = rw b refl
+
 pub into-bound : (n : ℕ) (maps : List Map) (q : ℕ) (s : TypeState) → Bound q (into_turn n maps q s).next
 unfolding into_turn once pick
 into-bound n maps q s = go (map_at maps q)
@@ -117,31 +121,24 @@ into-bound n maps q s = go (map_at maps q)
     go none = refl
     go (some x) = met (meet_trace s x).accepts (meet_trace s x) (map_types x)
 
-module _ (version own : ℕ) (g : Signature) (code : List ℕ) (maps : List Map) (l : ℕ) (k j : Noted) (s u : TypeState) (t : Step) (z : s ≡ entry_of own g)
-    (e : turning (next_of t u) j ≡ taking l (into_turn (length code) maps 0 s) k) where
-  goes : Bound 0 (next_of t u)
+module _ (version own : ℕ) (g : Signature) (code : List ℕ) (maps : List Map) (l : ℕ) (k j : Noted) (s : TypeState) (o : Onward) (z : s ≡ entry_of own g)
+    (e : turning o j ≡ taking l (into_turn (length code) maps 0 s) k) where
+  goes : Bound 0 o
   unfolding taking
   goes = subst (λ (x : Turning). Bound 0 x.next) (sym e) (into-bound (length code) maps 0 s)
 
-  entered : turning (next_of t u) j ≡ taking l (into_turn (length code) maps 0 (entry_of own g)) k
+  entered : turning o j ≡ taking l (into_turn (length code) maps 0 (entry_of own g)) k
   entered = rw z at e
 
-  pub entry-goes : (q : ℕ) → t ≡ Next q → (r : Verification) → r ≡ posting l (trace version code maps g.result (length code) 0 maps u) j → r ≡ posting l (method_trace version own g code maps) k
-  unfolding method_trace whole_trace next_of
-  entry-goes q h r a =
-      let zero : q ≡ 0 = rw h at goes in
-      a ∙ sym (on-next version code maps g.result l (into_turn (length code) maps 0 (entry_of own g)) maps (trace version code maps g.result (length code)) k j (next_of t u) entered 0 u (rw (h, zero) refl))
+  pub entry-goes : (t : P.Option ℕ) (u : TypeState) → o ≡ next_of t u → (r : Verification) → r ≡ posting l (trace version code maps g.result (length code) 0 maps u) j
+      → r ≡ posting l (method_trace version own g code maps) k
+  unfolding method_trace whole_trace
+  entry-goes t u h r a =
+      a ∙ sym (on-next version code maps g.result l (into_turn (length code) maps 0 (entry_of own g)) maps (trace version code maps g.result (length code)) k j o entered 0 u (h ∙ to-start t u (rw h at goes)))
 
-  pub entry-stops : t ≡ Stop → verification false j ≡ posting l (method_trace version own g code maps) k
-  unfolding method_trace whole_trace next_of
-  entry-stops h = sym (on-stop version code maps g.result l (into_turn (length code) maps 0 (entry_of own g)) maps (trace version code maps g.result (length code)) k j (next_of t u) entered (rw h refl))
-
-  never_ends : t ≡ End → ⊥
-  unfolding next_of
-  never_ends h = rw h at goes
-
-  pub entry-ends : t ≡ End → (r : Verification) → r ≡ posting l (method_trace version own g code maps) k
-  entry-ends h r = absurd (never_ends h)
+  pub entry-stops : o ≡ refused → verification false j ≡ posting l (method_trace version own g code maps) k
+  unfolding method_trace whole_trace
+  entry-stops h = sym (on-stop version code maps g.result l (into_turn (length code) maps 0 (entry_of own g)) maps (trace version code maps g.result (length code)) k j o entered h)
 
 -- the same walk from another point on
 pub ran : (l : ℕ) (w v : Trace) (k : Noted) (r : Verification) → w ≡ v → posting l v k ≡ r → posting l w k ≡ r

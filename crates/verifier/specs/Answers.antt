@@ -3,7 +3,6 @@ use Rattle.std.specs.Prelude.{◌≡◌, List, [], ◌∷◌, ◌++◌, ℕ, ◌
 use Rattle.std.specs.Prelude as P
 use Rattle.std.proofs.Math.Option.{Option, none, some}
 use Rattle.definition.specs.Lists.{stack}
-use Rattle.definition.specs.Instructions.{pick}
 use Rattle.definition.specs.Maybe.{◌>>=◌}
 use Rattle.definition.specs.declared.Arguments.{Arguments}
 use Rattle.definition.specs.Classes.{Map}
@@ -12,19 +11,20 @@ use Rattle.classfile.specs.Reading.{map_place, type_at}
 use Rattle.verifier.specs.declared.effects.Meeting.{Meeting}
 use Rattle.verifier.specs.declared.effects.Meeting.TheVariants.{Unmet, Met, Noted}
 use Rattle.verifier.specs.declared.effects.Effect.{Effect}
-use Rattle.verifier.specs.declared.effects.Effect.TheVariants.{Rejected, Kept, Pushed, Stored, Ended}
+use Rattle.verifier.specs.declared.effects.Effect.TheVariants.{Kept, Pushed, Stored, Ended}
 use Rattle.verifier.specs.declared.types.Types.{Types}
 use Rattle.verifier.specs.declared.changes.Change.{Change}
 use Rattle.verifier.specs.declared.flows.Part.{Part}
 use Rattle.verifier.specs.declared.flows.Part.TheVariants.{Locals, Operands}
 use Rattle.verifier.specs.declared.quiet.Quiet.{Quiet}
 use Rattle.verifier.specs.declared.quiet.Quiet.TheVariants.{Keeps, Pushes, Sets}
-use Rattle.verifier.specs.declared.turns.Step.{Step}
-use Rattle.verifier.specs.declared.turns.Step.TheVariants.{Stop, End, Next}
+use Rattle.verifier.specs.declared.turns.Turn.{Turn}
+use Rattle.verifier.specs.declared.notes.Rejected.{Rejected}
+use Rattle.rows.specs.Posting.{noted}
 use Rattle.verifier.specs.declared.methods.Ahead.{Ahead}
 use Rattle.verifier.specs.Types.{type_of, local_of, local_at, operand_at, locals_of, types_of}
 use Rattle.verifier.specs.Effects.{notes_in, Outcome, rejected, going, ending, left_by}
-use Rattle.verifier.specs.Trace.{values_trace, Onward, refused, accepted, onto, Turned, bound, left_from}
+use Rattle.verifier.specs.Trace.{values_trace, Onward, refused, accepted, onto, Turned, bound, Turning, turning, left_from}
 
 -- What an effect stands for
 
@@ -36,12 +36,12 @@ kept s d ns = flow (stack (operand_at s.operands) d) (locals_of s.locals) ns
 abbrev pushed : Types → ℕ → ℕ → List Note → Option Flow
 pushed s d t ns = flow (type_of t ∷ stack (operand_at s.operands) d) (locals_of s.locals) ns
 
-unfoldable pub outcome_of : Types → Effect → Outcome
-outcome_of s Rejected = rejected
-outcome_of s (Kept d a vs) = going (notes_in a >>= λ x. kept s d (x ++ (values_trace s.operands d vs).notes))
-outcome_of s (Pushed d t a vs) = going (notes_in a >>= λ x. pushed s d t (x ++ (values_trace s.operands d vs).notes))
-outcome_of s (Stored d i t) = going (flow (stack (operand_at s.operands) d) (set (locals_of s.locals) i (local_of t)) [])
-outcome_of s (Ended a) = ending (notes_in a)
+unfoldable pub outcome_of : Types → P.Option Effect → Outcome
+outcome_of s P.None = rejected
+outcome_of s (P.Some (Kept d a vs)) = going (notes_in a >>= λ x. kept s d (x ++ (values_trace s.operands d vs).notes))
+outcome_of s (P.Some (Pushed d t a vs)) = going (notes_in a >>= λ x. pushed s d t (x ++ (values_trace s.operands d vs).notes))
+outcome_of s (P.Some (Stored d i t)) = going (flow (stack (operand_at s.operands) d) (set (locals_of s.locals) i (local_of t)) [])
+outcome_of s (P.Some (Ended a)) = ending (notes_in a)
 
 unfoldable pub made : Meeting → List Note
 made Unmet = []
@@ -53,13 +53,19 @@ unfoldable pub made_flow : Types → ℕ → Meeting → Arguments → Option Fl
 made_flow s d a vs = notes_in a >>= λ x. some (record { types = types_of s; notes = x ++ (values_trace s.operands d vs).notes })
 
 -- what an instruction leaves, if it fits
-unfoldable pub change_of : Change → Option Flow
-change_of c = pick c.fits (some (record { types = types_of c.types; notes = made c.receiver ++ (values_trace c.types.operands c.place c.names).notes })) none
+unfoldable pub change_of : P.Option Change → Option Flow
+change_of P.None = none
+change_of (P.Some c) = some (record { types = types_of c.types; notes = made c.receiver ++ (values_trace c.types.operands c.place c.names).notes })
 
-unfoldable pub next_of : Step → TypeState → Onward
-next_of Stop s = refused
-next_of End s = accepted
-next_of (Next q) s = onto q s
+-- the point at which the walk goes on, none at the code's end
+unfoldable pub next_of : P.Option ℕ → TypeState → Onward
+next_of P.None s = accepted
+next_of (P.Some q) s = onto q s
+
+-- what a turn answers and leaves of the table of subtype constraints
+abbrev pub stepped : P.Result Turn Rejected → List ℕ → Turning
+stepped (P.Ok t) xs = turning (next_of t.next (types_of t.types)) (noted xs t.count)
+stepped (P.Err r) xs = turning refused (noted xs r.count)
 
 -- Turns without notes: the types that they leave
 
@@ -75,9 +81,9 @@ setting s d i t = record { operands = s.operands; locals = set s.locals i t; dep
 -- an effect leaves them, and the walk goes to point q
 unfoldable pub QuietBy : ℕ → Types → Effect → P.Option Quiet → Type 0
 QuietBy q s e P.None = Unit {0}
-QuietBy q s e (P.Some (Keeps p d)) = (p ≡ q) × (left_by (types_of s) (outcome_of s e) ≡ some (record { types = types_of (keeping s d); notes = [] }))
-QuietBy q s e (P.Some (Pushes p d t)) = (p ≡ q) × (d < 16) × (left_by (types_of s) (outcome_of s e) ≡ some (record { types = types_of (pushing s d t); notes = [] }))
-QuietBy q s e (P.Some (Sets p d i t)) = (p ≡ q) × (i < 8) × (left_by (types_of s) (outcome_of s e) ≡ some (record { types = types_of (setting s d i t); notes = [] }))
+QuietBy q s e (P.Some (Keeps p d)) = (p ≡ q) × (left_by (types_of s) (outcome_of s (P.Some e)) ≡ some (record { types = types_of (keeping s d); notes = [] }))
+QuietBy q s e (P.Some (Pushes p d t)) = (p ≡ q) × (d < 16) × (left_by (types_of s) (outcome_of s (P.Some e)) ≡ some (record { types = types_of (pushing s d t); notes = [] }))
+QuietBy q s e (P.Some (Sets p d i t)) = (p ≡ q) × (i < 8) × (left_by (types_of s) (outcome_of s (P.Some e)) ≡ some (record { types = types_of (setting s d i t); notes = [] }))
 
 -- a turn goes on with them
 unfoldable pub QuietTo : Turned → Types → P.Option Quiet → Type 0

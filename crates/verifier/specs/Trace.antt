@@ -11,7 +11,10 @@ use Rattle.definition.specs.declared.Arguments.{Arguments}
 use Rattle.definition.specs.Classes.{types_of as names_of, Map, Method}
 use Rattle.definition.specs.Verifier.{Note, TypeState, Flow, map_at, map_types, meet_local, meets, target, goes_on, maps_past}
 use Rattle.classfile.specs.Reading.{map_count, map_numbered, file_version, class_name, quick_methods}
-use Rattle.rows.specs.Posting.{Noted, post_notes}
+use Rattle.std.specs.Prelude as P
+use Rattle.rows.specs.Posting.{Noted, noted, post_notes}
+use Rattle.verifier.specs.declared.notes.Posted.{Posted}
+use Rattle.verifier.specs.declared.notes.Rejected.{Rejected}
 use Rattle.verifier.specs.Types.{entry_of}
 use Rattle.verifier.specs.Effects.{meet_value, leaves}
 
@@ -156,6 +159,15 @@ pub record Verification : Type 0 where
 
 abbrev pub verification : Bool → Noted → Verification
 verification a k = record { accepts = a; rows = k }
+
+-- what the code answers: how many rows of the table there are, and, of a flow into a map, the row at which the next one's notes are looked for first
+abbrev pub answered : P.Result ℕ Rejected → List ℕ → Verification
+answered (P.Ok n) xs = verification true (noted xs n)
+answered (P.Err r) xs = verification false (noted xs r.count)
+
+abbrev pub flowed : P.Result Posted Rejected → List ℕ → Verification
+flowed (P.Ok p) xs = verification true (noted xs p.count)
+flowed (P.Err r) xs = verification false (noted xs r.count)
 
 -- the notes posted under a loader, behind the rows k
 unfoldable pub posting : ℕ → Trace → Noted → Verification

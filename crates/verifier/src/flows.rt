@@ -1,42 +1,39 @@
 // Demands met in their order, each note posted as it comes: the values above a receiver; and what flows into a map, each local and operand against the map's type.
-ghost use Rattle.std.specs.Prelude.{false, ◌≡◌, map, ℕ, ◌+◌, ◌<◌, ◌≤◌};
+ghost use Rattle.std.specs.Prelude.{◌≡◌, map, ℕ, ◌+◌, ◌<◌, ◌≤◌};
 ghost use Rattle.definition.specs.Verifier.{local_type, map_types, meet_local, type_of_name};
 ghost use Rattle.classfile.specs.Reading.{map_depth, type_at, map_of};
 ghost use Rattle.verifier.specs.Types.{local_of, locals_of, operand_at, types_of};
 ghost use Rattle.verifier.specs.Effects.{notes_in};
-ghost use Rattle.rows.specs.Posting.{noted};
-ghost use Rattle.verifier.specs.Trace.{verification, posting, fits, meet_from, values_trace, meet_trace};
+ghost use Rattle.rows.specs.Posting.{noted, post_notes};
+ghost use Rattle.verifier.specs.Trace.{posting, flowed, fits, meet_from, values_trace, meet_trace};
 ghost use Rattle.verifier.specs.Answers.{meet_at};
 
 use crate::effects::{Meeting, meet_name, meet_value, met};
-use crate::notes::{Flowed, Verified, post_flow, post_meeting, rejected};
+use crate::notes::{Posted, Rejected, post_flow, post_meeting};
 use crate::types::{LOCALS, OPERANDS, Types, UNSET, type_of_name};
 use cells::arguments::argument_count;
 use definition::Arguments;
 
-// The values above the receiver at place d, in their order.
-pub(crate) fn meet_values(
+// The notes of the values above the receiver at place d, in their order, up to the first that isn't met. Answers the new count of rows.
+pub(crate) fn post_values(
     types: Types,
     d: usize,
     names: Arguments,
     loader: u8,
     subtypes: &mut [u16],
     count: u16,
-) -> Verified
-    ensures { verification result.accepts (noted subtypes.new result.count) ≡ posting loader (values_trace types.operands d names) (noted subtypes.old count) }
+) -> u16
+    ensures { noted subtypes.new result ≡ post_notes loader (values_trace types.operands d names).notes (noted subtypes.old count) }
 {
     let mut total = count;
     for i in 0..argument_count(names) {
         let m = meet_value(types, d, names, i);
         if !met(m) {
-            return rejected(total);
+            return total;
         }
         total = post_meeting(m, loader, subtypes, total);
     }
-    Verified {
-        accepts: true,
-        count: total,
-    }
+    total
 }
 
 // The type that a map gives a local: 0 is unset.
@@ -115,17 +112,6 @@ pub(crate) fn mapped_types(maps: &[u8], place: u32) -> Types
     }
 }
 
-// A flow that is not met.
-pub(crate) fn unmet(count: u16) -> Flowed
-    ensures { (result.accepts ≡ false) × (result.count ≡ count) }
-{
-    Flowed {
-        accepts: false,
-        count,
-        near: 0,
-    }
-}
-
 // The two parts of the types at a point.
 #[derive(Clone, Copy)]
 pub enum Part {
@@ -155,36 +141,29 @@ fn meet_part(
     subtypes: &mut [u16],
     count: u16,
     near: u16,
-) -> Flowed
-    ensures { verification result.accepts (noted subtypes.new result.count) ≡ posting loader (meet_from (meet_at maps.now place values.now part) n 0) (noted subtypes.old count) }
+) -> Result<Posted, Rejected>
+    ensures { flowed result subtypes.new ≡ posting loader (meet_from (meet_at maps.now place values.now part) n 0) (noted subtypes.old count) }
 {
-    let mut total = count;
-    let mut row = near;
+    let mut posted = Posted { count, near };
     for i in 0..n {
         let m = meet_place(maps, place, values, part, i);
         if !met(m) {
-            return unmet(total);
+            return Err(Rejected {
+                count: posted.count,
+            });
         }
-        let posted = post_flow(m, loader, subtypes, total, row);
-        total = posted.count;
-        row = posted.near;
+        posted = post_flow(m, loader, subtypes, posted.count, posted.near);
     }
-    Flowed {
-        accepts: true,
-        count: total,
-        near: row,
-    }
+    Ok(posted)
 }
 
 // Where the next flow's first note is looked for first: a flow of so many places, each with a note, began as many rows before.
-fn begun(flow: Flowed, places: u16) -> Flowed
-    ensures { (result.accepts ≡ flow.accepts) × (result.count ≡ flow.count) }
+fn begun(flow: Posted, places: u16) -> Posted
+    ensures { result.count ≡ flow.count }
 {
-    let near = flow.near;
-    Flowed {
-        accepts: flow.accepts,
+    Posted {
         count: flow.count,
-        near: near.saturating_sub(places),
+        near: flow.near.saturating_sub(places),
     }
 }
 
@@ -197,15 +176,15 @@ pub(crate) fn meet_map(
     subtypes: &mut [u16],
     count: u16,
     near: u16,
-) -> Flowed
-    ensures { verification result.accepts (noted subtypes.new result.count) ≡ posting loader (meet_trace (types_of types) (map_of maps.now place)) (noted subtypes.old count) }
+) -> Result<Posted, Rejected>
+    ensures { flowed result subtypes.new ≡ posting loader (meet_trace (types_of types) (map_of maps.now place)) (noted subtypes.old count) }
 {
     let depth = classfile::map_depth(maps, place);
     if !is_fitting(maps, place) {
-        return unmet(count);
+        return Err(Rejected { count });
     }
     if types.depth != usize::from(depth) {
-        return unmet(count);
+        return Err(Rejected { count });
     }
     let values = types.locals;
     let locals = meet_part(
@@ -218,10 +197,7 @@ pub(crate) fn meet_map(
         subtypes,
         count,
         near,
-    );
-    if !locals.accepts {
-        return locals;
-    }
+    )?;
     let above = types.operands;
     let operands = meet_part(
         maps,
@@ -233,6 +209,6 @@ pub(crate) fn meet_map(
         subtypes,
         locals.count,
         locals.near,
-    );
-    begun(operands, 8 + u16::from(depth))
+    )?;
+    Ok(begun(operands, 8 + u16::from(depth)))
 }

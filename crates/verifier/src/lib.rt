@@ -18,6 +18,6 @@ mod places; // places.rt: where a class file is refused
 pub use classes::verify_class;
 pub use decoding::{Reading, decode, extended, inline_length, opcode_of};
 pub use methods::verify_method;
-pub use notes::Verified;
+pub use notes::Rejected;
 pub use places::{Check, Found, find_place};
 pub use unmapped::{is_class_unmapped, is_unmapped};

@@ -6,13 +6,13 @@ ghost use Rattle.classfile.specs.Reading.{maps_of};
 ghost use Rattle.rows.specs.Posting.{noted};
 ghost use Rattle.verifier.specs.Lookups.{Indexed};
 ghost use Rattle.verifier.specs.Types.{types_of};
-ghost use Rattle.verifier.specs.Trace.{verification, posting, trace, method_trace, left_from};
+ghost use Rattle.verifier.specs.Trace.{answered, verification, posting, trace, method_trace, left_from};
 ghost use Rattle.verifier.specs.Answers.{PlaceOf, Passes};
 
 use crate::lookups::index_maps;
-use crate::notes::{Verified, rejected};
+use crate::notes::Rejected;
 use crate::quiet::quiet_run;
-use crate::turns::{Step, flow_into, turn_at};
+use crate::turns::{flow_into, turn_at};
 use crate::types::{Types, entry_types};
 use definition::Signature;
 
@@ -46,12 +46,13 @@ pub(crate) fn pass(maps: &[u8], i: u8, place: u32, p: usize) -> Option<Ahead>
 }
 
 // The code ends where all maps are behind.
-fn ended(maps: &[u8], j: u8, count: u16) -> Verified
-    ensures { result ≡ record { accepts = leb (length (left_from maps.now j)) 0; count = count } }
+fn ended(maps: &[u8], j: u8, count: u16) -> Result<u16, Rejected>
+    ensures { (t : _) → answered result t ≡ verification (leb (length (left_from maps.now j)) 0) (noted t count) }
 {
-    Verified {
-        accepts: classfile::map_count(maps) <= j,
-        count,
+    if classfile::map_count(maps) <= j {
+        Ok(count)
+    } else {
+        Err(Rejected { count })
     }
 }
 
@@ -66,9 +67,9 @@ fn walk(
     loader: u8,
     subtypes: &mut [u16],
     count: u16,
-) -> Verified
+) -> Result<u16, Rejected>
     requires { Indexed maps.now places.now }
-    ensures { verification result.accepts (noted subtypes.new result.count) ≡ posting loader (trace version code.now (maps_of maps.now) res (length code.now) 0 (maps_of maps.now) (types_of first)) (noted subtypes.old count) }
+    ensures { answered result subtypes.new ≡ posting loader (trace version code.now (maps_of maps.now) res (length code.now) 0 (maps_of maps.now) (types_of first)) (noted subtypes.old count) }
 {
     let mut types = first;
     let mut left = code.len();
@@ -80,27 +81,24 @@ fn walk(
     while 0 < left {
         let run = quiet_run(version, code, maps, places, res, types, left, p, i, place);
         let Some(ahead) = pass(maps, run.map, run.place, run.point) else {
-            return rejected(total);
+            return Err(Rejected { count: total });
         };
         let before = run.types;
         let turn = turn_at(
             version, code, maps, places, run.point, res, before, loader, subtypes, total, near,
-        );
+        )?;
+        let Some(q) = turn.next else {
+            return ended(maps, ahead.number, turn.count);
+        };
+        p = q;
         total = turn.count;
         near = turn.near;
-        let step = turn.step;
-        match step {
-            Step::Stop => return rejected(total),
-            Step::End => return ended(maps, ahead.number, total),
-            Step::Next(q) => p = q,
-        }
-        let after = turn.types;
-        types = after;
+        types = turn.types;
         i = ahead.number;
         place = ahead.place;
         left = run.left - 1;
     }
-    rejected(total)
+    Err(Rejected { count: total })
 }
 
 // The flow from entry, and the walk from the first point on.
@@ -114,9 +112,9 @@ fn verify_code(
     loader: u8,
     subtypes: &mut [u16],
     count: u16,
-) -> Verified
+) -> Result<u16, Rejected>
     requires { Indexed maps.now places.now }
-    ensures { verification result.accepts (noted subtypes.new result.count) ≡ posting loader (method_trace version own s code.now (maps_of maps.now)) (noted subtypes.old count) }
+    ensures { answered result subtypes.new ≡ posting loader (method_trace version own s code.now (maps_of maps.now)) (noted subtypes.old count) }
 {
     let entry = flow_into(
         maps,
@@ -127,23 +125,18 @@ fn verify_code(
         subtypes,
         count,
         count,
-    );
-    let step = entry.step;
-    match step {
-        Step::Next(_) => walk(
-            version,
-            code,
-            maps,
-            places,
-            s.result,
-            entry.types,
-            loader,
-            subtypes,
-            entry.count,
-        ),
-        Step::Stop => rejected(entry.count),
-        Step::End => rejected(entry.count),
-    }
+    )?;
+    walk(
+        version,
+        code,
+        maps,
+        places,
+        s.result,
+        entry.types,
+        loader,
+        subtypes,
+        entry.count,
+    )
 }
 
 // A method of the class of that version and name, by its code and the bytes of its maps. Its notes are posted under the loader, behind the table's rows.
@@ -156,8 +149,8 @@ pub fn verify_method(
     loader: u8,
     subtypes: &mut [u16],
     count: u16,
-) -> Verified
-    ensures { verification result.accepts (noted subtypes.new result.count) ≡ posting loader (method_trace version own s code.now (maps_of maps.now)) (noted subtypes.old count) }
+) -> Result<u16, Rejected>
+    ensures { answered result subtypes.new ≡ posting loader (method_trace version own s code.now (maps_of maps.now)) (noted subtypes.old count) }
 {
     if classfile::map_count(maps) == 0 {
         return verify_code(version, code, maps, &[], own, s, loader, subtypes, count);

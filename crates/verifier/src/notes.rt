@@ -9,10 +9,10 @@ ghost use Rattle.verifier.specs.Answers.{made};
 use crate::effects::Meeting;
 use definition::numbers::ROW_CELLS;
 
-// What verifying answers: whether it accepts, and how many rows the table of subtype constraints has with the notes. Past 256 there are too many.
+// The verifier rejects. The notes that came before are posted already: so many rows the table of subtype constraints has with them. Past 256 there are
+// too many.
 #[derive(Clone, Copy)]
-pub struct Verified {
-    pub accepts: bool,
+pub struct Rejected {
     pub count: u16,
 }
 
@@ -20,14 +20,6 @@ pub struct Verified {
 // one map mostly come in the same order again.
 #[derive(Clone, Copy)]
 pub struct Posted {
-    pub count: u16,
-    pub near: u16,
-}
-
-// What a flow into a map answers: whether it is met, and the same.
-#[derive(Clone, Copy)]
-pub struct Flowed {
-    pub accepts: bool,
     pub count: u16,
     pub near: u16,
 }
@@ -112,14 +104,5 @@ pub(crate) fn post_meeting(m: Meeting, loader: u8, subtypes: &mut [u16], count: 
         Meeting::Unmet => count,
         Meeting::Met => count,
         Meeting::Noted(low, high) => rows::post_note(subtypes, count, loader, low, high),
-    }
-}
-
-pub(crate) fn rejected(count: u16) -> Verified
-    ensures { result ≡ record { accepts = false; count = count } }
-{
-    Verified {
-        accepts: false,
-        count,
     }
 }

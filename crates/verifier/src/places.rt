@@ -11,7 +11,7 @@ ghost use Rattle.verifier.specs.Stops.{place_of, stop_at_end, stops, whole_stop,
 use crate::decoding::decode;
 use crate::lookups::{goes_on, index_maps, is_lacking};
 use crate::methods::pass;
-use crate::turns::{Step, flow_into, turn_at};
+use crate::turns::{flow_into, turn_at};
 use crate::types::{Types, entry_types};
 use definition::Signature;
 use definition::numbers::{SUBTYPE_LIMIT, VERSION_TWO};
@@ -64,7 +64,7 @@ fn walk_stop(
         let Some(ahead) = pass(maps, i, place, p) else {
             return Some(p);
         };
-        let turn = turn_at(
+        let Ok(turn) = turn_at(
             version,
             code,
             maps,
@@ -76,15 +76,14 @@ fn walk_stop(
             &mut [],
             UNPOSTED,
             UNPOSTED,
-        );
-        let step = turn.step;
-        match step {
-            Step::Stop => return Some(p),
-            Step::End => return stop_at_end(maps, ahead.number, code.len()),
-            Step::Next(q) => p = q,
-        }
-        let after = turn.types;
-        types = after;
+        ) else {
+            return Some(p);
+        };
+        let Some(q) = turn.next else {
+            return stop_at_end(maps, ahead.number, code.len());
+        };
+        p = q;
+        types = turn.types;
         i = ahead.number;
         place = ahead.place;
     }
@@ -103,7 +102,7 @@ fn stop_of(
     requires { Indexed maps.now places.now }
     ensures { result ≡ optional (check_point Check.Types version own s code.now (maps_of maps.now)) }
 {
-    let entry = flow_into(
+    let Ok(entry) = flow_into(
         maps,
         places,
         0,
@@ -112,13 +111,10 @@ fn stop_of(
         &mut [],
         UNPOSTED,
         UNPOSTED,
-    );
-    let step = entry.step;
-    match step {
-        Step::Next(_) => walk_stop(version, code, maps, places, s.result, entry.types),
-        Step::Stop => Some(0),
-        Step::End => Some(0),
-    }
+    ) else {
+        return Some(0);
+    };
+    walk_stop(version, code, maps, places, s.result, entry.types)
 }
 
 // The code is read up to the first instruction that can't be. Version 1 has no maps, and lacks none.

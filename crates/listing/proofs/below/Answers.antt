@@ -1,9 +1,7 @@
 -- Three cells.
 use Rattle.definition.specs.Tables.{subtype_at}
-use Rattle.listing.specs.Answers.{listed_of}
-use borrow.Author.Rules.{rules}
 use Rattle.listing.proofs.below.Goals as goal
 
 pub returns : goal.returns
-unfolding listed_of subtype_at
+unfolding subtype_at
 returns c = rw (c.at.ensures, c.at-2.ensures, c.at-3.ensures)

@@ -1,12 +1,9 @@
 -- Word 1 first, then the row.
 use mathlib.Core.Path.{sym, ◌∙◌}
-use Rattle.listing.specs.Answers.{listed_of}
 use Rattle.listing.proofs.Laws.{row-broken, row-sound}
-use borrow.Author.Rules.{rules}
 use Rattle.listing.proofs.row.Goals as goal
 
 pub returns-then-is_broken : goal.returns-then-is_broken
-unfolding listed_of
 returns-then-is_broken c = sym (row-broken _ _ (sym c.is_broken.ensures ∙ c.if-is_broken.true))
 
 pub returns : goal.returns

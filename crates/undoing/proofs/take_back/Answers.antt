@@ -1,8 +1,6 @@
 -- A broken store is refused, then one with no load to take back.
 use mathlib.Core.Path.{sym, ap, ◌∙◌}
 use Prim.Native.Nat.{ℕ, ◌-◌}
-use native.Mathlib.Omega.{arith}
-use borrow.Author.Rules.{rules}
 use Rattle.undoing.specs.Back.{back-broken, back_done, back-late}
 use Rattle.undoing.proofs.take_back.Goals as goal
 
@@ -11,9 +9,6 @@ returns-then-is_broken c = back-broken _ (sym c.is_broken.ensures ∙ c.if-is_br
 
 pub returns-then-loads-eq0 : goal.returns-then-loads-eq0
 returns-then-loads-eq0 c = back-late _ (sym c.is_broken.ensures ∙ c.if-is_broken.false) (sym c.at-loads.ensures ∙ c.if-loads-eq0.true)
-
-pub overflow_sub-loads : goal.overflow_sub-loads
-overflow_sub-loads c = omega (arith, c.if-loads-eq0.false)
 
 pub returns : goal.returns
 returns c =

@@ -1,6 +1,5 @@
 -- The sections, one after the other.
 use mathlib.Core.Path.{◌∙◌}
-use borrow.Author.Rules.{rules}
 use Rattle.changing.proofs.Cells.{cell-count, cell-owner, cell-tie, cell-subtype, cell-behind}
 use Rattle.changing.proofs.counts.cell_of.Goals as goal
 

@@ -1,9 +1,8 @@
 -- A row without bytes, one that starts past the kept bytes, and the first byte.
-use mathlib.Core.Path.{◌≡◌, sym, ap, ◌∙◌}
+use mathlib.Core.Path.{sym, ap, ◌∙◌}
 use Prim.Native.Nat.{ℕ}
 use native.Mathlib.Omega.{arith}
 use lib.ListN.{get_or}
-use borrow.Author.Rules.{rules}
 use Rattle.changing.proofs.Later.{no-file, past-kept, early-byte, late-byte}
 use Rattle.changing.proofs.versions.later_row.Goals as goal
 

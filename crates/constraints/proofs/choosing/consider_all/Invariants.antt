@@ -7,4 +7,4 @@ use Rattle.constraints.proofs.choosing.consider_all.Given as goal
 abbrev pub invariant-loop-q : goal.invariant-loop-q
 invariant-loop-q l =
     Holds l.best l.kept
-    × (considered_all l.tos l.labels l.dists l.ways l.classes l.c (l.cached - l.q) l.q (held l.best l.kept) ≡ considered_all l.tos l.labels l.dists l.ways l.classes l.c l.cached 0 (held l.initial.best l.size))
+    × (considered_all l.tos l.labels l.dists l.ways l.classes l.c (l.cached - l.q) l.q (held l.best l.kept) ≡ considered_all l.tos l.labels l.dists l.ways l.classes l.c l.cached 0 (held l.initial.best l.fn.size))

@@ -10,4 +10,4 @@ invariant-loop-p l =
     Holds l.best l.kept
     × Stamped 256 l.p l.aboves
     × Met l.classes l.p l.met
-    × Swept l.froms l.tos l.labels l.count l.classes l.cached l.only (super_in l.supers) l.p (held l.initial.best l.size) (held l.best l.kept)
+    × Swept l.froms l.tos l.labels l.count l.classes l.cached l.only (super_in l.supers) l.p (held l.initial.best l.fn.size) (held l.best l.kept)

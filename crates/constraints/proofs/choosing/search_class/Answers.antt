@@ -8,9 +8,6 @@ use Rattle.constraints.proofs.choosing.search_class.Goals as goal
 pub seed-seeds-requires : goal.seed-seeds-requires
 seed-seeds-requires c = (c.requires.0, zeroed, length-replicate {A = ℕ} 1280 0)
 
-pub spread-requires : goal.spread-requires
-spread-requires c = (c.requires.1, (c.seed-seeds.ensures (replicate 1280 0) (length-replicate {A = ℕ} 1280 0)).sized)
-
 pub consider_all-requires : goal.consider_all-requires
 consider_all-requires c =
     let args = c.args in
@@ -25,4 +22,4 @@ returns c =
     let consider-all = c.consider_all in
     let ends = ends_in args.only args.aboves.now args.stamp args.classes.now args.cached args.c in
     let r = c.spread.ensures ends (c.seed-seeds.ensures (replicate 1280 0) (length-replicate {A = ℕ} 1280 0)) in
-    (consider-all.ensures.0, rw consider-all.ensures.1 (chosen-for _ _ _ _ _ pre.3 _ _ r.1 _ pre.2 _ _ _))
+    (consider-all.ensures.0, rw consider-all.ensures.1 (chosen-for _ _ _ _ _ pre.3 _ _ r.1 _ _ c.unwrap_or-limit.ensures _ _ _))

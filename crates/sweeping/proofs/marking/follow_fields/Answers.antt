@@ -1,10 +1,6 @@
 -- The list never has more than 256 objects. Before the object at place i is looked at, those from i on still are to be.
-use mathlib.Core.Path.{◌∙◌, ◌≡◌, refl, sym}
-use Prim.Native.Nat.{◌-◌, ◌≤◌}
+use mathlib.Core.Path.{◌∙◌, refl, sym}
 use native.Mathlib.Omega.{arith}
-use lib.ListN.{length}
-use borrow.Author.Rules.{rules}
-use Rattle.sweeping.specs.Marking.{work, field_names, follow}
 use Rattle.sweeping.proofs.Laws.{few-kept, follow-turn, follow-end}
 use Rattle.sweeping.proofs.marking.follow_fields.Goals as goal
 

@@ -1,10 +1,7 @@
-use mathlib.Core.Path.{◌∙◌, ◌≡◌, refl, sym}
+use mathlib.Core.Path.{◌≡◌}
 use Prim.Native.Nat.{◌-◌, ◌≤◌}
-use native.Mathlib.Omega.{arith}
 use lib.ListN.{length}
-use borrow.Author.Rules.{rules}
 use Rattle.sweeping.specs.Marking.{work, field_names, follow}
-use Rattle.sweeping.proofs.Laws.{few-kept, follow-turn, follow-end}
 use Rattle.sweeping.proofs.marking.follow_fields.Given as goal
 
 abbrev pub invariant-loop-i : goal.invariant-loop-i

@@ -1,6 +1,5 @@
 -- The roots of both tasks are marked, then the work list is gone through.
 use native.Mathlib.Omega.{arith}
-use borrow.Author.Rules.{rules}
 use Rattle.sweeping.proofs.Laws.{few-kept, marked_by}
 use Rattle.sweeping.proofs.marking.mark_reached.Goals as goal
 

@@ -1,6 +1,5 @@
 -- A value of another kind names no object.
 use mathlib.Core.Path.{◌∙◌, sym}
-use borrow.Author.Rules.{rules}
 use Rattle.definition.specs.Tables.{value_at}
 use Rattle.sweeping.proofs.Laws.{value-object, value-other}
 use Rattle.sweeping.proofs.marking.mark_value.Goals as goal

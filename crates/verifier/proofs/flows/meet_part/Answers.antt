@@ -9,7 +9,7 @@ pub loop-i-init : goal.loop-i-init
 loop-i-init c = meet-start _ _ _ _
 
 pub returns-then-not-met : goal.returns-then-not-met
-returns-then-not-met c = rw (c.unmet.ensures.0, c.unmet.ensures.1) (sym (meet-unmet _ _ _ _ _ c.loop-i-test.true (sym c.meet_place-m.ensures ∙ unmet-notes _ (sym c.met.ensures ∙ c.if-not-met.true))) ∙ c.loop-i.invariant)
+returns-then-not-met c = sym (meet-unmet _ _ _ _ _ c.loop-i-test.true (sym c.meet_place-m.ensures ∙ unmet-notes _ (sym c.met.ensures ∙ c.if-not-met.true))) ∙ c.loop-i.invariant
 
 pub loop-i-preserved : goal.loop-i-preserved
 loop-i-preserved c =

@@ -1,15 +1,11 @@
 -- The flow from entry first; it goes to point 0, from which the walk goes on, or nowhere.
-use Rattle.verifier.proofs.WalkLaws.{entry-goes, entry-stops, entry-ends}
+use mathlib.Core.Path.{refl}
+use Rattle.verifier.proofs.PostingLaws.{exits}
+use Rattle.verifier.proofs.WalkLaws.{entry-goes, entry-stops}
 use Rattle.verifier.proofs.methods.verify_code.Goals as goal
 
-pub returns-in-Next : goal.returns-in-Next
-returns-in-Next c =
-    entry-goes _ _ _ _ _ _ _ _ _ _ _ c.entry_types.ensures (c.flow_into-entry.ensures _) _ c.in-Next.is _ c.walk.ensures
+pub returns-in_err-entry : goal.returns-in_err-entry
+returns-in_err-entry c = rw (exits _ _ c.from_residual.ensures.1) (entry-stops _ _ _ _ _ _ _ _ _ _ c.entry_types.ensures (c.in_err-entry.ensures _) refl)
 
-pub returns-in-Stop : goal.returns-in-Stop
-returns-in-Stop c =
-    rw c.rejected.ensures (entry-stops _ _ _ _ _ _ _ _ _ _ _ c.entry_types.ensures (c.flow_into-entry.ensures _) c.in-Stop.is)
-
-pub returns-in-End : goal.returns-in-End
-returns-in-End c =
-    entry-ends _ _ _ _ _ _ _ _ _ _ _ c.entry_types.ensures (c.flow_into-entry.ensures _) c.in-End.is _
+pub returns : goal.returns
+returns c = entry-goes _ _ _ _ _ _ _ _ _ _ c.entry_types.ensures (c.in_ok-entry.ensures _) _ _ refl _ c.walk.ensures

@@ -1,16 +1,13 @@
 -- The flow from entry goes to point 0, from which the walk goes on, or nowhere.
 use mathlib.Core.Path.{refl, ap, ◌∙◌}
-use mathlib.Core.Option.{some}
 use Rattle.cells.specs.Optional.{optional}
-use Rattle.verifier.proofs.StopLaws.{next-is, entry-on, entry-stop, entry-end}
+use Rattle.verifier.proofs.StopLaws.{next-is, entry-on, entry-stop}
 use Rattle.verifier.proofs.places.stop_of.Goals as goal
 
-pub returns-in-Next : goal.returns-in-Next
-returns-in-Next c =
-    c.walk_stop.ensures ∙ ap optional (entry-on _ _ _ _ _ _ _ _ c.entry_types.ensures (next-is _ _ _ _ _ (c.flow_into-entry.ensures _)) _ c.in-Next.is _ refl)
+pub returns-in_default : goal.returns-in_default
+returns-in_default c = ap optional (entry-stop _ _ _ _ _ _ _ c.entry_types.ensures (next-is _ _ _ _ _ (c.in_default.ensures _)) refl)
 
-pub returns-in-Stop : goal.returns-in-Stop
-returns-in-Stop c = ap optional (entry-stop _ _ _ _ _ _ _ _ c.entry_types.ensures (next-is _ _ _ _ _ (c.flow_into-entry.ensures _)) c.in-Stop.is)
-
-pub returns-in-End : goal.returns-in-End
-returns-in-End c = ap optional (entry-end _ _ _ _ _ _ _ _ c.entry_types.ensures (next-is _ _ _ _ _ (c.flow_into-entry.ensures _)) c.in-End.is (some 0))
+pub returns : goal.returns
+returns c =
+    c.walk_stop.ensures
+    ∙ ap optional (entry-on _ _ _ _ _ _ _ c.entry_types.ensures (next-is _ _ _ _ _ (c.in-Ok.ensures _)) _ _ refl _ refl)

@@ -23,26 +23,25 @@ returns-in_default c =
     ap optional
     (sym (stop-inside _ _ _ _ _ _ _ _ (omega (arith, c.loop-turn-test.true)) (passed-inside _ _ (c.pass.ensures _ _ _ _) c.in_default.is)) ∙ c.loop-turn.invariant.rest)
 
-pub returns-in-Stop : goal.returns-in-Stop
-unfolding next_of
-returns-in-Stop c =
+pub returns-in_default-turn_at : goal.returns-in_default-turn_at
+returns-in_default-turn_at c =
     ap optional
-    (sym (stop-stop _ _ _ _ _ _ _ _ (omega (arith, c.loop-turn-test.true)) _ (passed_to _ _ _ (c.pass.ensures _ _ _ _) c.in-Some.is).0 _ (next-is _ _ _ _ _ c.turn_at-turn.ensures) (ap (λ x. next_of x (types_of c.turn_at-turn.result.types)) c.in-Stop.is))
+    (sym (stop-stop _ _ _ _ _ _ _ _ (omega (arith, c.loop-turn-test.true)) _ (passed_to _ _ _ (c.pass.ensures _ _ _ _) c.in-Some.is).0 _ (next-is _ _ _ _ _ c.in_default-turn_at.ensures) refl)
     ∙ c.loop-turn.invariant.rest)
 
-pub returns-in-End : goal.returns-in-End
+pub returns-in_default-next : goal.returns-in_default-next
 unfolding next_of
-returns-in-End c =
+returns-in_default-next c =
     c.stop_at_end.ensures
     ∙ ap optional
-    (sym (stop-end _ _ _ _ _ _ _ _ (omega (arith, c.loop-turn-test.true)) _ (passed_to _ _ _ (c.pass.ensures _ _ _ _) c.in-Some.is).0 _ (next-is _ _ _ _ _ c.turn_at-turn.ensures) (ap (λ x. next_of x (types_of c.turn_at-turn.result.types)) c.in-End.is))
+    (sym (stop-end _ _ _ _ _ _ _ _ (omega (arith, c.loop-turn-test.true)) _ (passed_to _ _ _ (c.pass.ensures _ _ _ _) c.in-Some.is).0 _ (next-is _ _ _ _ _ c.in-Ok.ensures) (ap (λ x. next_of x (types_of c.in-Ok.turn.types)) c.in_default-next.is))
     ∙ c.loop-turn.invariant.rest)
 
 pub loop-turn-preserved : goal.loop-turn-preserved
 unfolding next_of
 loop-turn-preserved c = record {
   at = (passed_to _ _ _ (c.pass.ensures 0 [] [] 0) c.in-Some.is).1;
-  rest = sym (stop-next _ _ _ _ _ _ _ _ (omega (arith, c.loop-turn-test.true)) _ (passed_to _ _ _ (c.pass.ensures _ _ _ _) c.in-Some.is).0 _ (next-is _ _ _ _ _ c.turn_at-turn.ensures) _ _ _ (omega (arith, c.loop-turn-test.true)) (ap (λ x. next_of x (types_of c.turn_at-turn.result.types)) c.in-Next.is))
+  rest = sym (stop-next _ _ _ _ _ _ _ _ (omega (arith, c.loop-turn-test.true)) _ (passed_to _ _ _ (c.pass.ensures _ _ _ _) c.in-Some.is).0 _ (next-is _ _ _ _ _ c.in-Ok.ensures) _ _ _ (omega (arith, c.loop-turn-test.true)) (ap (λ x. next_of x (types_of c.in-Ok.turn.types)) c.in-Some-next.is))
       ∙ c.loop-turn.invariant.rest;
 }
 

@@ -14,11 +14,7 @@ returns-in_default c = λ n. rw (optional-none _ (sym c.target_of.ensures ∙ c.
 pub returns-then-place-eq0 : goal.returns-then-place-eq0
 unfolding posting post_notes
 returns-then-place-eq0 c =
-    λ n. rw (
-      c.unmet.ensures.0,
-      c.unmet.ensures.1,
-      target-bare _ n _ _ c.find_map-place.ensures c.if-place-eq0.true _ _ _ (optional-some _ _ (sym c.target_of.ensures ∙ c.in-Some.is)) c.from.ensures,
-    ) refl
+    λ n. rw (target-bare _ n _ _ c.find_map-place.ensures c.if-place-eq0.true _ _ _ (optional-some _ _ (sym c.target_of.ensures ∙ c.in-Some.is)) c.from.ensures) refl
 
 pub returns : goal.returns
 returns c =

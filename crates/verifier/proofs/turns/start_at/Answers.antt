@@ -10,11 +10,11 @@ unfolding next_of
 returns-then-q-n c = λ l t. taken-bound _ _ _ _ (start-end _ _ _ c.if-q-n.true)
 
 pub returns-then-place-eq0 : goal.returns-then-place-eq0
-returns-then-place-eq0 c = λ l t. c.stop.ensures t ∙ taken-bound _ _ _ _ (start-bare _ _ _ _ c.find_map-place.ensures c.if-place-eq0.true c.if-q-n.false)
+returns-then-place-eq0 c = λ l t. taken-bound _ _ _ _ (start-bare _ _ _ _ c.find_map-place.ensures c.if-place-eq0.true c.if-q-n.false)
 
 pub returns-then-not-is_fitting : goal.returns-then-not-is_fitting
 returns-then-not-is_fitting c =
-    λ l t. c.stop-then-not-is_fitting.ensures t ∙ taken-bound _ _ _ _
+    λ l t. taken-bound _ _ _ _
     (start-unfit _ _ _ _ c.find_map-place.ensures c.if-place-eq0.false c.if-q-n.false
     (sym c.is_fitting.ensures ∙ c.if-not-is_fitting.true))
 

@@ -3,15 +3,16 @@ use mathlib.Core.Path.{refl, sym, ◌∙◌}
 use native.Mathlib.Omega.{arith}
 use Rattle.verifier.proofs.ChangeLaws.{met-notes, unmet-notes}
 use Rattle.verifier.proofs.FlowLaws.{meet-end, meet-unmet, meet-met}
+use Rattle.verifier.proofs.PostingLaws.{rows-say}
 use Rattle.verifier.proofs.ValueLaws.{values-posted}
-use Rattle.verifier.proofs.flows.meet_values.Goals as goal
+use Rattle.verifier.proofs.flows.post_values.Goals as goal
 
 pub loop-i-init : goal.loop-i-init
 loop-i-init c = values-posted _ _ _ _ _ _ c.argument_count-i-end.ensures
 
 pub returns-then-not-met : goal.returns-then-not-met
 returns-then-not-met c =
-    rw c.rejected.ensures
+    rows-say _ _ _ _ _
     (sym (meet-unmet _ _ _ _ _ c.loop-i-test.true (sym c.meet_value-m.ensures ∙ unmet-notes _ (sym c.met.ensures ∙ c.if-not-met.true))) ∙ c.loop-i.invariant)
 
 pub loop-i-preserved : goal.loop-i-preserved
@@ -21,4 +22,4 @@ loop-i-preserved c =
     ∙ c.loop-i.invariant)
 
 pub returns : goal.returns
-returns c = sym (meet-end _ _ _ _ _ c.loop-i-test.false) ∙ c.loop-i.invariant
+returns c = rows-say _ _ _ _ _ (sym (meet-end _ _ _ _ _ c.loop-i-test.false) ∙ c.loop-i.invariant)

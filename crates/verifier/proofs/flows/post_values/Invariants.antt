@@ -4,7 +4,7 @@ use lib.ListN.{length}
 use Rattle.rows.specs.Posting.{noted}
 use Rattle.verifier.specs.Effects.{meet_value}
 use Rattle.verifier.specs.Trace.{posting, meet_from, values_trace}
-use Rattle.verifier.proofs.flows.meet_values.Given as goal
+use Rattle.verifier.proofs.flows.post_values.Given as goal
 
 abbrev pub invariant-loop-i : goal.invariant-loop-i
 invariant-loop-i l =
