@@ -12,7 +12,7 @@ ghost use Rattle.verifier.specs.Stops.{check_in};
 ghost use Rattle.desk.specs.Answers.{verdict_of};
 
 use definition::numbers::{SUBTYPE_LIMIT, WORD_FILE, WORD_UNMAPPED, WORD_UNVERIFIED};
-use verifier::{Check, Found};
+use verifier::Check;
 
 // 0 if the bytes are a class file that the verifier accepts, 2 if they are no class file, 15 if a method lacks a map, 6 if the verifier rejects it.
 // The verifier's notes aren't wanted here: the table for them is empty and counts as one that has too many rows, so none is posted.
@@ -26,11 +26,10 @@ pub extern "C" fn tariff_check(bytes: &[u8]) -> u8
     if verifier::is_class_unmapped(bytes) {
         return WORD_UNMAPPED;
     }
-    let verified = verifier::verify_class(bytes, 0, &mut [], SUBTYPE_LIMIT + 1);
-    if !verified.accepts {
-        return WORD_UNVERIFIED;
+    match verifier::verify_class(bytes, 0, &mut [], SUBTYPE_LIMIT + 1) {
+        Ok(_) => 0,
+        Err(_) => WORD_UNVERIFIED,
     }
-    0
 }
 
 // The desk's number, and the place of a 6 or 15.
@@ -46,14 +45,13 @@ fn walked(bytes: &[u8]) -> Verdict
     requires { is_some (read_file bytes.now) ≡ true }
     ensures { first_place (check_in Check.Maps (file_version bytes.now) (class_name bytes.now)) 0 (quick_methods bytes.now) ≡ none → verdict_of result ≡ desk_verdict bytes.now }
 {
-    let stop = verifier::find_place(bytes, Check::Types);
-    match stop {
-        Found::In(j, p) => Verdict {
+    match verifier::find_place(bytes, Check::Types) {
+        Some(stop) => Verdict {
             number: WORD_UNVERIFIED,
-            method: j,
-            point: p as u32,
+            method: stop.method,
+            point: stop.point as u32,
         },
-        Found::Absent => Verdict {
+        None => Verdict {
             number: 0,
             method: 0,
             point: 0,
@@ -71,14 +69,13 @@ fn judge(bytes: &[u8]) -> Verdict
             point: 0,
         };
     }
-    let lack = verifier::find_place(bytes, Check::Maps);
-    match lack {
-        Found::In(j, p) => Verdict {
+    match verifier::find_place(bytes, Check::Maps) {
+        Some(lack) => Verdict {
             number: WORD_UNMAPPED,
-            method: j,
-            point: p as u32,
+            method: lack.method,
+            point: lack.point as u32,
         },
-        Found::Absent => walked(bytes),
+        None => walked(bytes),
     }
 }
 

@@ -12,15 +12,15 @@ returns-then-not-reads c = sym (said-file _ (sym c.reads.ensures ∙ c.if-not-re
 
 pub overflow_cast-result : goal.overflow_cast-result
 unfolding place_of
-overflow_cast-result c = omega (arith, spot-short _ (sym c.reads.ensures ∙ c.if-not-reads.false) _ _ _ (sym c.find_place-lack.ensures ∙ ap place_of c.in-In.is))
+overflow_cast-result c = omega (arith, spot-short _ (sym c.reads.ensures ∙ c.if-not-reads.false) _ _ _ (sym c.find_place.ensures ∙ ap place_of c.in-Some.is))
 
 pub walked-requires : goal.walked-requires
 walked-requires c = (sym c.reads.ensures ∙ c.if-not-reads.false)
 
-pub returns-in-In : goal.returns-in-In
+pub returns-in-Some : goal.returns-in-Some
 unfolding place_of verdict_of
-returns-in-In c = sym (said-lack _ (sym c.reads.ensures ∙ c.if-not-reads.false) _ _ (sym c.find_place-lack.ensures ∙ ap place_of c.in-In.is))
+returns-in-Some c = sym (said-lack _ (sym c.reads.ensures ∙ c.if-not-reads.false) _ _ (sym c.find_place.ensures ∙ ap place_of c.in-Some.is))
 
-pub returns-in-Absent : goal.returns-in-Absent
+pub returns-in-None : goal.returns-in-None
 unfolding place_of
-returns-in-Absent c = c.walked.ensures (sym c.find_place-lack.ensures ∙ ap place_of c.in-Absent.is)
+returns-in-None c = c.walked.ensures (sym c.find_place.ensures ∙ ap place_of c.in-None.is)

@@ -8,12 +8,12 @@ use Rattle.desk.proofs.walked.Goals as goal
 
 pub overflow_cast-result : goal.overflow_cast-result
 unfolding place_of
-overflow_cast-result c = omega (arith, spot-short _ c.requires _ _ _ (sym c.find_place-stop.ensures ∙ ap place_of c.in-In.is))
+overflow_cast-result c = omega (arith, spot-short _ c.requires _ _ _ (sym c.find_place.ensures ∙ ap place_of c.in-Some.is))
 
-pub returns-in-In : goal.returns-in-In
+pub returns-in-Some : goal.returns-in-Some
 unfolding place_of verdict_of
-returns-in-In c = λ n. sym (said-stop _ c.requires n _ _ (sym c.find_place-stop.ensures ∙ ap place_of c.in-In.is))
+returns-in-Some c = λ n. sym (said-stop _ c.requires n _ _ (sym c.find_place.ensures ∙ ap place_of c.in-Some.is))
 
-pub returns-in-Absent : goal.returns-in-Absent
+pub returns-in-None : goal.returns-in-None
 unfolding place_of verdict_of
-returns-in-Absent c = λ n. sym (said-fine _ c.requires n (sym c.find_place-stop.ensures ∙ ap place_of c.in-Absent.is))
+returns-in-None c = λ n. sym (said-fine _ c.requires n (sym c.find_place.ensures ∙ ap place_of c.in-None.is))
