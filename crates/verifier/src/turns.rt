@@ -8,9 +8,8 @@ ghost use Rattle.verifier.specs.Types.{types_of};
 ghost use Rattle.verifier.specs.Trace.{flowed, posting, taking, target_trace, into_turn, start_turn, flowing, turned_to, turned};
 ghost use Rattle.verifier.specs.Answers.{change_of, stepped};
 
-use crate::changes::{Change, carried_out};
+use crate::changes::{Change, change_at};
 use crate::decoding::decode;
-use crate::effects::effect_of;
 use crate::flows::{is_fitting, mapped_types, meet_map, post_values};
 use crate::lookups::{find_map, goes_on, target_of};
 use crate::notes::{Posted, Rejected, post_meeting};
@@ -41,15 +40,14 @@ pub(crate) fn flow_into(
     requires { Indexed maps.now places.now }
     ensures { (n : ℕ) → stepped result subtypes.new ≡ taking loader (into_turn n (maps_of maps.now) q (types_of types)) (noted subtypes.old count) }
 {
-    let place = find_map(maps, places, q);
-    if place == 0 {
+    let Some(place) = find_map(maps, places, q) else {
         return Ok(Turn {
             next: Some(q),
             count,
             near,
             types,
         });
-    }
+    };
     let met = meet_map(maps, place, types, loader, subtypes, count, near)?;
     let mapped = mapped_types(maps, place);
     Ok(Turn {
@@ -81,10 +79,9 @@ fn start_at(
             types,
         });
     }
-    let place = find_map(maps, places, q);
-    if place == 0 {
+    let Some(place) = find_map(maps, places, q) else {
         return Err(Rejected { count });
-    }
+    };
     if !is_fitting(maps, place) {
         return Err(Rejected { count });
     }
@@ -113,10 +110,9 @@ fn flow_to_target(
     let Some(q) = target_of(i) else {
         return Ok(Posted { count, near });
     };
-    let place = find_map(maps, places, usize::from(q));
-    if place == 0 {
+    let Some(place) = find_map(maps, places, usize::from(q)) else {
         return Err(Rejected { count });
-    }
+    };
     meet_map(maps, place, types, loader, subtypes, count, near)
 }
 
@@ -191,7 +187,7 @@ pub(crate) fn turn_at(
         return Err(Rejected { count });
     };
     let i = read.instruction;
-    let Some(change) = carried_out(types, effect_of(types, i, res)) else {
+    let Some(change) = change_at(types, i, res) else {
         return Err(Rejected { count });
     };
     let end = p + read.size;
