@@ -6,12 +6,10 @@ use mathlib.Core.List.{List, [], ◌∷◌}
 use mathlib.Core.Logic.{◌⊎◌, inl, inr}
 use Prim.Native.Nat.{ℕ, ◌+◌, ◌<◌, ◌≤◌}
 use native.Mathlib.Omega.{arith}
-use lib.ListN.{length, get_or, set}
-use lib.Seq.{get_or-set_same}
+use lib.ListN.{get_or}
 use lib.Dec.{ltb}
 use borrow.Author.Tests.{eq-eqb, ne_eqb, lt-ltb, le-ltb, ltb-true}
 use Rattle.std.specs.Prelude as P
-use Rattle.definition.specs.Lists.{rows}
 use Rattle.definition.specs.Superclasses.{Below, Falls, below, same, up}
 use Rattle.definition.specs.Reasons.{precedes}
 use Rattle.laws.specs.Upward.{below_true, true_below}
@@ -32,9 +30,6 @@ module _ (sup : ℕ → Option ℕ) (falls : Falls sup) (c d : ℕ) where
   pub record Climbing (next : P.Option ℕ) : Type 0 where
     pub into : Below sup c d → From next
     pub back : From next → Below sup c d
-
-  pub climbing-first : Climbing (P.Some c)
-  climbing-first = record { into = λ b. b; back = λ b. b }
 
   pub climbing-here : (next : P.Option ℕ) (x : ℕ) → next ≡ P.Some x → x ≡ d → Climbing next → true ≡ below sup c d
   climbing-here next x e q k = sym (true_below sup falls c d (k.back (rw e (same q))))

@@ -1,13 +1,11 @@
 -- What the two searches leave is why the store of the tables doesn't agree, and so is what is listed of it.
-use mathlib.Core.Path.{◌≡◌, refl, sym, ap, ◌∙◌}
+use mathlib.Core.Path.{◌≡◌, sym, ap, ◌∙◌}
 use mathlib.Core.Bool.{true, false}
-use mathlib.Core.Option.{Option, none, some}
+use mathlib.Core.Option.{Option, none}
 use mathlib.Core.List.{List, ◌++◌}
-use mathlib.Core.Logic.{◌⊎◌, inl, inr}
 use Prim.Native.Nat.{min, ℕ, ◌+◌, ◌≤◌}
 use native.Mathlib.Omega.{arith}
 use lib.ListN.{get_or, set}
-use borrow.Author.Tests.{ne_eqb}
 use Rattle.definition.specs.Numbers.{cache_limit, tie_limit, subtype_limit, count_cache, count_ties, count_subtypes, tie_numbers_cell, subtype_numbers_cell}
 use Rattle.definition.specs.Lists.{rows, write_rows}
 use Rattle.definition.specs.declared.Reply.{Reply}
@@ -17,7 +15,7 @@ use Rattle.laws.specs.Earlier.{row_before}
 use Rattle.layout.specs.Places.{rows-length}
 use Rattle.rows.specs.Numbers.{numbers_fit}
 use Rattle.constraints.specs.Agreement.{super_in}
-use Rattle.constraints.specs.Nodes.{place_limit, AllNumbered, NodesOf, ClassesOf}
+use Rattle.constraints.specs.Nodes.{AllNumbered, NodesOf, ClassesOf}
 use Rattle.std.specs.Prelude as P
 use Rattle.constraints.specs.Choosing.{held, BestOf}
 use Rattle.constraints.specs.Linking.{Linked, Labelled, reason_in}

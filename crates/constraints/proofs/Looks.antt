@@ -2,7 +2,7 @@
 -- one; the first of a group beside what it leads to.
 use mathlib.Core.Path.{◌≡◌, refl, ap}
 use mathlib.Core.Option.{Option}
-use mathlib.Core.List.{List}
+use mathlib.Core.List.{List, []}
 use mathlib.Core.Logic.{◌⊎◌, inl, inr}
 use Prim.Native.Nat.{ℕ, zero, suc, ◌+◌, ◌<◌, ◌≤◌}
 use native.Mathlib.Omega.{arith}
@@ -47,8 +47,8 @@ members-followed q = let e : ◌≡◌ {A = ℕ} 1 2 = ap who_of q in omega arit
 
 -- tables of zeros, before the first turn, with any queue
 
-pub tables-none : {noted : ℕ} (queue : List ℕ) → noted ≡ 0 → Tables noted 0 (replicate 1 0) (replicate 1 0) queue (replicate 1 0)
-tables-none queue z = record { outs_most = (stamped-none 1 0).most; ins_most = (stamped-none 1 0).most; full = inl z }
+pub tables-none : {noted : ℕ} (queue : List ℕ) → noted ≡ 0 → Tables noted 0 [] [] queue []
+tables-none queue z = record { outs_most = λ x. omega arith; ins_most = λ x. omega arith; full = inl z }
 
 pub tables-zeros : (noted : ℕ) (queue : List ℕ) → length queue ≡ 1280 → Tables noted 0 (replicate 1280 0) (replicate 1280 0) queue (replicate 256 0)
 tables-zeros noted queue long = record {

@@ -4,13 +4,12 @@ use mathlib.Core.Bool.{Bool, true, false, false≢true, ◌&&◌}
 use mathlib.Core.List.Memᴰ
 use mathlib.Core.List.{◌∷◌, Memᴰ}
 use mathlib.Core.Logic.{◌⊎◌, inl, inr}
-use Prim.Native.Nat.{ℕ, zero, suc, ◌+◌, ◌-◌, ◌<◌, ◌≤◌}
+use Prim.Native.Nat.{ℕ, zero, suc, ◌+◌, ◌<◌, ◌≤◌}
 use native.Mathlib.Nat.{eq-or-lt_of_le}
 use native.Mathlib.Omega.{arith}
 use lib.Dec.{ltb}
 use borrow.Author.Tests.{ltb-true, ltb-false}
 use Rattle.definition.specs.Lists.{rows, all}
-use Rattle.layout.specs.Places.{rows_start}
 
 -- two numbers
 pub data Order (a b : ℕ) : Type 0 where
@@ -63,10 +62,6 @@ all_same f g p h (suc k) i e = rw (e i (omega arith) (omega arith))
         (elim t as (λ _. Bool) [ true ↦ all p (rows h k (suc i)) | false ↦ false ])
     go true r = r
     go false r = refl
-
--- a test of n rows begins
-pub all_start : {A : Type 0} (f : A → Bool) (g : ℕ → A) (n : ℕ) → all f (rows g (n - 0) 0) ≡ all f (rows g n 0)
-all_start f g n = rw (rows_start g n)
 
 -- both of two tests that hold together
 pub both_true : (s t : Bool) → s && t ≡ true → (s ≡ true) × (t ≡ true)

@@ -8,10 +8,10 @@ use mathlib.Core.List.{List, [], ◌∷◌, Memᴰ, ◌++◌}
 use mathlib.Core.Logic.{◌⊎◌, inl, inr}
 use Prim.Native.Nat.{ℕ, zero, suc, ◌+◌, ◌<◌, ◌≤◌}
 use native.Mathlib.Omega.{arith}
-use lib.ListN.{length, get_or, set, length-set, get_or-eq_default, replicate, length-replicate}
+use lib.ListN.{length, get_or, set, length-set, replicate, length-replicate}
 use lib.Seq.{get_or-set_same, get_or-set_other}
 use lib.Dec.{eqb, ltb}
-use borrow.Author.Tests.{eqb-true, eqb-false, ltb-true, ltb-false, lt-ltb, eq-eqb, ne_eqb}
+use borrow.Author.Tests.{eqb-true, eqb-false, ltb-true, lt-ltb, eq-eqb, ne_eqb}
 use Rattle.laws.specs.Earlier.{row_before, row-order, itself, number-on}
 use Rattle.constraints.specs.Nodes.{place_limit}
 use Rattle.constraints.specs.Joining.{Last}
@@ -44,14 +44,6 @@ unmarked (x ∷ xs) (suc i) v h e n = go (eqb x 0) (unmarked xs i v (omega arith
         → ◌≡◌ {A = ℕ} (suc (elim t as (λ _. ℕ) [ true ↦ suc (marked 0 (set xs i v)) | false ↦ marked 0 (set xs i v) ])) (elim t as (λ _. ℕ) [ true ↦ suc (marked 0 xs) | false ↦ marked 0 xs ])
     go true r = ap suc r
     go false r = r
-
--- a cell that isn't zero is one of the table
-not-zero : (l : List ℕ) (i k : ℕ) → get_or l i 0 ≡ suc k → i < length l
-not-zero l i k e = go (ltb i (length l)) refl
-  where
-    go : (t : Bool) → ltb i (length l) ≡ t → i < length l
-    go true q = ltb-true i (length l) q
-    go false q = let z : 0 ≡ suc k = sym (get_or-eq_default l 0 (ltb-false i (length l) q)) ∙ e in absurd (omega arith)
 
 zero_or : (n : ℕ) → (n ≡ 0) ⊎ ((k : ℕ) × (n ≡ suc k))
 zero_or zero = inl refl
@@ -798,9 +790,6 @@ module _ (only : Bool) (aboves : List ℕ) (stamp : ℕ) (classes : List ℕ) (c
 
     node : (i : ℕ) → Written s.queue s.tail q i
     node i = written s.queue s.tail q i (omega (arith, left, e.sized.room.queue_long))
-
-    pub seeded-tail : s.tail < place_limit
-    seeded-tail = left
 
     pub seeded-one : Seeded (ends_to (q + 1)) (found (set s.dists q 1) s.ways (set s.queue s.tail q) (s.tail + 1))
     seeded-one = record {

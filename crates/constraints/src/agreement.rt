@@ -97,23 +97,19 @@ fn find_break(
     ensures { Finding (super_in supers.now) groups.now classes.now cached noted newcomer result }
 {
     if noted == 0 {
-        let none = [0u16; 1];
-        let mut outs = [0u16; 1];
-        let mut ins = [0u16; 1];
-        let mut aboves = [0u16; 1];
         return find_pair(
             supers,
             groups,
             classes,
             cached,
             noted,
-            &none,
-            &none,
+            &[],
+            &[],
             newcomer,
-            &mut outs,
-            &mut ins,
+            &mut [],
+            &mut [],
             queue,
-            &mut aboves,
+            &mut [],
         );
     }
     let mut heads = [0u16; PLACE_LIMIT];

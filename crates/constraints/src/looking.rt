@@ -24,7 +24,8 @@ pub(crate) struct Span {
     pub who: Meets,
 }
 
-// Whose turn it is: at turn 0 the newcomer's, at turn 1 that of ties, which is nobody's own, then each request's, two turns after its place.
+// Whose turn it is: at turn 0 the newcomer's, at turn 1 that of ties, which is nobody's own, then each request's, two turns after its place. Turns are numbers,
+// since each one's marks have its number and one.
 pub(crate) fn request_at(turn: usize, newcomer: usize) -> usize
     ensures { result ≡ request_at turn newcomer }
 {

@@ -1,5 +1,5 @@
 -- The check of the store with ties that are to be posted, on a copy of the ties and on a table of superclasses.
-use Rattle.std.specs.Prelude.{◌≡◌, Bool, true, false, List, ◌++◌, get_or, ltb}
+use Rattle.std.specs.Prelude.{◌≡◌, Bool, true, false, List, ◌++◌, get_or, ltb, min}
 use Rattle.std.proofs.Math.Path.{refl, ap}
 use Rattle.std.proofs.Common.{sym, ◌∙◌, arith, length-set, length-append}
 use Rattle.std.proofs.Math.Option.{Option, none}
@@ -73,7 +73,7 @@ tried I n us long few =
 
 -- groups that are made of them are right, where all lie between loaders
 pub posted-beside : (I : List ℕ) (n : ℕ) (us : List Tie) (old new : List ℕ) (r : Bool) → length I ≡ 768 → n + length us ≤ 256 → length old ≡ 256 → All Between (rows (tie_at I) n 0) → All Between us
-    → lowest.RowGroups (write_rows put_tie us n I) (lowest.at_most 256 (n + length us)) old r new → Beside (write_rows put_tie us n I) new (n + length us)
+    → lowest.RowGroups (write_rows put_tie us n I) (min (n + length us) 256) old r new → Beside (write_rows put_tie us n I) new (n + length us)
 posted-beside I n us old new r long few room a b made =
     beside-made (write_rows put_tie us n I) old new (n + length us) r few (omega (arith, room, few))
     (ap (all tie_fits) (tried I n us long few) ∙ all-test tie_fits Between tie-fits (rows (tie_at I) n 0 ++ us) (all_both Between (rows (tie_at I) n 0) us a b)) made

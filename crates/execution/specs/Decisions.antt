@@ -28,14 +28,11 @@ use Rattle.instructions.specs.declared.Plan.TheVariants.{Refuse, Keep, Jump, Abo
 use Rattle.instructions.specs.Plans.{decoded, meaning, Fit, FrameOnly, Returning}
 use Rattle.layout.specs.Whole.{All, Between}
 use Rattle.resolution.specs.Quick.{quick_base}
-use Rattle.access.specs.declared.Access.{Access}
-use Rattle.access.specs.declared.Access.TheVariants.{Unresolved, Resolved}
 use Rattle.access.specs.Declarers.{declaring-some}
-use Rattle.access.specs.Accesses.{world_in, ties_on, accessed, Accessing, frame_room}
+use Rattle.access.specs.Accesses.{Answered, resolved, world_in, ties_on, accessed, Accessing, frame_room}
 use Rattle.access.specs.Makings.{RoomIs, Making}
-use Rattle.posting.specs.declared.Posting.{Posting}
-use Rattle.posting.specs.declared.Posting.TheVariants.{Nothing}
-use Rattle.posting.specs.Postings.{to_post, Quiet, quietly, quietly-quiet, quietly-means, quietly-few}
+use Rattle.std.specs.Prelude as Rust
+use Rattle.posting.specs.Postings.{Posting, to_post, Quiet, quietly, quietly-quiet, quietly-means, quietly-few}
 
 -- Posting, case by case
 
@@ -100,7 +97,7 @@ pub record Settled (N L K E I S : List ℕ) (room : Bool) (us : List Tie) (plan 
   pub either : ((p ≡ plan) × (room ≡ true)) ⊎ ((r : Refusal) × (p ≡ Refuse r))
 
 module _ (N L K E I S : List ℕ) (room : Bool) (us : List Tie) (plan : Plan) (low : get_or N 3 0 ≤ 256) where
-  pub settled-refused : (r : Refusal) → post (bare N L K E I S) room us ≡ refused r → Settled N L K E I S room us plan Nothing (Refuse r)
+  pub settled-refused : (r : Refusal) → post (bare N L K E I S) room us ≡ refused r → Settled N L K E I S room us plan Rust.None (Refuse r)
   unfolding meaning to_post ◌>>=◌
   settled-refused r h = record { says = λ O F task os fs G b q. rw h; ties = omega arith; quiet = refl; either = inr (r, refl) }
 
@@ -115,7 +112,7 @@ module _ (N L K E I S : List ℕ) (room : Bool) (us : List Tie) (plan : Plan) (l
   }
 
 -- The cases: no room; and, where x are the ties that are new, the others
-pub settle-no-room : (N L K E I S : List ℕ) (plan : Plan) → get_or N 3 0 ≤ 256 → (us : List Tie) (room : Bool) → room ≡ false → Settled N L K E I S room us plan Nothing (Refuse (Word 10))
+pub settle-no-room : (N L K E I S : List ℕ) (plan : Plan) → get_or N 3 0 ≤ 256 → (us : List Tie) (room : Bool) → room ≡ false → Settled N L K E I S room us plan Rust.None (Refuse (Word 10))
 settle-no-room N L K E I S plan low us room e = settled-refused N L K E I S room us plan low (Word 10) (rw e (post-no-room (bare N L K E I S) us))
 
 module _ (N L K E I S : List ℕ) (plan : Plan) (low : get_or N 3 0 ≤ 256) (us : List Tie) (x : Posting) (new : to_post x ≡ us) where
@@ -129,12 +126,12 @@ module _ (N L K E I S : List ℕ) (plan : Plan) (low : get_or N 3 0 ≤ 256) (us
         settled-posted N L K E I S room us plan low x new (omega arith) free
         (rw free (post-agrees (bare N L K E I S) us (get_or N 3 0) count (omega arith) (agrees-none (bare N L K E I S) us z)))
 
-    pub settle-full : 256 < get_or N 3 0 + length (to_post x) → Settled N L K E I S room us plan Nothing (Refuse (Word 10))
+    pub settle-full : 256 < get_or N 3 0 + length (to_post x) → Settled N L K E I S room us plan Rust.None (Refuse (Word 10))
     settle-full h =
         settled-refused N L K E I S room us plan low (Word 10) (rw free (post-full (bare N L K E I S) us (get_or N 3 0) count (rw new at h)))
 
     module _ (fit : get_or N 3 0 + length (to_post x) ≤ 256) where
-      pub settle-clash : (length (to_post x) ≡ 0 → ⊥) → agrees (posted (bare N L K E I S) (to_post x)) ≡ false → Settled N L K E I S room us plan Nothing (Refuse (Word 9))
+      pub settle-clash : (length (to_post x) ≡ 0 → ⊥) → agrees (posted (bare N L K E I S) (to_post x)) ≡ false → Settled N L K E I S room us plan Rust.None (Refuse (Word 9))
       settle-clash n h =
           settled-refused N L K E I S room us plan low (Word 9)
           (rw free (post-clash (bare N L K E I S) us (get_or N 3 0) count (rw new at fit) (agrees-not (bare N L K E I S) us (λ e. n (rw new e)) (rw new at h))))
@@ -178,7 +175,7 @@ module _ (N L K E I S O F : List ℕ) (k m b d loader : ℕ) (i : Instruction) (
   T = tables N L K E I S O F
 
   -- an instruction of its own frame alone
-  pub acted-frame : FrameOnly F b d i p → Acted N L K E I S O F k m b d loader i Nothing p
+  pub acted-frame : FrameOnly F b d i p → Acted N L K E I S O F k m b d loader i Rust.None p
   unfolding to_post
   acted-frame h = record {
     says = λ c y n e.
@@ -189,7 +186,7 @@ module _ (N L K E I S O F : List ℕ) (k m b d loader : ℕ) (i : Instruction) (
     fits = λ few. h.fits few B T k m;
   }
 
-  pub acted-return : Returning F k m b d i p → Acted N L K E I S O F k m b d loader i Nothing p
+  pub acted-return : Returning F k m b d i p → Acted N L K E I S O F k m b d loader i Rust.None p
   unfolding to_post
   acted-return h = record {
     says = λ c y n e.
@@ -202,7 +199,7 @@ module _ (N L K E I S O F : List ℕ) (k m b d loader : ℕ) (i : Instruction) (
 
   -- new, where o is the lowest number unused and z how many objects the task made: a class that is cached has no more fields than a row has room for
   pub acted-make : (c o z : ℕ) → i ≡ New c → RoomIs N k o z → Making N L K E O F k b d loader c o z p → ((e : ℕ) → find B.cache (at loader c) ≡ some e → size_of B e ≤ 16)
-      → Acted N L K E I S O F k m b d loader i Nothing p
+      → Acted N L K E I S O F k m b d loader i Rust.None p
   unfolding to_post
   acted-make c o z q u h sizes = record {
     says = λ a y n e.
@@ -216,7 +213,7 @@ module _ (N L K E I S O F : List ℕ) (k m b d loader : ℕ) (i : Instruction) (
 -- An access: what is missing is refused; what was found is settled with its ties
 
 module _ (N L K E I S O F : List ℕ) (k m b d loader : ℕ) (i : Instruction) (room : List Frame → Bool) (types : List ℕ) (low : get_or N 3 0 ≤ 256) where
-  pub acted-unresolved : (r : Refusal) → Accessing N L K E O F b d loader room types i (Unresolved r) → Acted N L K E I S O F k m b d loader i Nothing (Refuse r)
+  pub acted-unresolved : (r : Refusal) → Accessing N L K E O F b d loader room types i (Rust.Err r) → Acted N L K E I S O F k m b d loader i Rust.None (Refuse r)
   unfolding to_post accessed meaning
   acted-unresolved r h = record {
     says = λ c y n e. h.says I S k (stack (frame_in F k) m) c y n e;
@@ -225,7 +222,7 @@ module _ (N L K E I S O F : List ℕ) (k m b d loader : ℕ) (i : Instruction) (
     fits = λ few. tt;
   }
 
-  pub acted-resolved : (one : ℕ) (plan p : Plan) (x : Posting) (z : Bool) → Accessing N L K E O F b d loader room types i (Resolved one plan)
+  pub acted-resolved : (one : ℕ) (plan p : Plan) (x : Posting) (z : Bool) → Accessing N L K E O F b d loader room types i (resolved one plan)
       → z ≡ room (stack (frame_in F k) m) → Settled N L K E I S z (ties_on (rows (tie_at I) (get_or N 3 0) 0) one loader types) plan x p
       → Acted N L K E I S O F k m b d loader i x p
   unfolding accessed
@@ -244,23 +241,23 @@ module _ (N L K E I S O F : List ℕ) (k m b d loader : ℕ) (i : Instruction) (
 
 -- An access that is settled
 
-abbrev pub AccessSettled : List ℕ → List ℕ → List ℕ → List ℕ → List ℕ → List ℕ → Bool → ℕ → List ℕ → Access → Posting → Plan → Type 0
-AccessSettled N L K E I S room loader types (Unresolved r) x p = (x ≡ Nothing) × (p ≡ Refuse r)
-AccessSettled N L K E I S room loader types (Resolved one plan) x p =
-    Settled N L K E I S room (ties_on (rows (tie_at I) (get_or N 3 0) 0) one loader types) plan x p
+abbrev pub AccessSettled : List ℕ → List ℕ → List ℕ → List ℕ → List ℕ → List ℕ → Bool → ℕ → List ℕ → Answered → Posting → Plan → Type 0
+AccessSettled N L K E I S room loader types (Rust.Err r) x p = (x ≡ Rust.None) × (p ≡ Refuse r)
+AccessSettled N L K E I S room loader types (Rust.Ok a) x p =
+    Settled N L K E I S room (ties_on (rows (tie_at I) (get_or N 3 0) 0) a.loader loader types) a.plan x p
 
 -- its loader is there
-abbrev pub Narrow : Access → Type 0
-Narrow (Unresolved r) = Unit {0}
-Narrow (Resolved one plan) = one < 16
+abbrev pub Narrow : Answered → Type 0
+Narrow (Rust.Err r) = Unit {0}
+Narrow (Rust.Ok a) = a.loader < 16
 
-pub acted-access : (N L K E I S O F : List ℕ) (k m b d loader : ℕ) (i : Instruction) (room : List Frame → Bool) (types : List ℕ) (z : Bool) (a : Access) (x : Posting) (p : Plan)
+pub acted-access : (N L K E I S O F : List ℕ) (k m b d loader : ℕ) (i : Instruction) (room : List Frame → Bool) (types : List ℕ) (z : Bool) (a : Answered) (x : Posting) (p : Plan)
     → get_or N 3 0 ≤ 256 → Accessing N L K E O F b d loader room types i a → z ≡ room (stack (frame_in F k) m) → AccessSettled N L K E I S z loader types a x p
     → Acted N L K E I S O F k m b d loader i x p
-acted-access N L K E I S O F k m b d loader i room types z (Unresolved r) x p low h q s =
+acted-access N L K E I S O F k m b d loader i room types z (Rust.Err r) x p low h q s =
     rw (s.0, s.1) (acted-unresolved N L K E I S O F k m b d loader i room types low r h)
-acted-access N L K E I S O F k m b d loader i room types z (Resolved one plan) x p low h q s =
-    acted-resolved N L K E I S O F k m b d loader i room types low one plan p x z h q s
+acted-access N L K E I S O F k m b d loader i room types z (Rust.Ok a) x p low h q s =
+    acted-resolved N L K E I S O F k m b d loader i room types low a.loader a.plan p x z h q s
 
 -- What deciding asks of the tables: counts within their limits, the ties' length, ties between loaders, no class of more than 16 fields in the cache, loaders that are there
 
@@ -275,10 +272,10 @@ pub record Usable (N L K E I : List ℕ) : Type 0 where
 abbrev pub RoomFor : List ℕ → ℕ → ℕ → ℕ → Type 0
 RoomFor N k from number = (unused_from N from ≡ unused_from N 0) × (k ≢ 0 → number ≡ made_in N k)
 
-pub narrow : (N L K E I : List ℕ) → Usable N L K E I → (O F : List ℕ) (b d loader : ℕ) (room : List Frame → Bool) (types : List ℕ) (i : Instruction) (a : Access)
+pub narrow : (N L K E I : List ℕ) → Usable N L K E I → (O F : List ℕ) (b d loader : ℕ) (room : List Frame → Bool) (types : List ℕ) (i : Instruction) (a : Answered)
     → Accessing N L K E O F b d loader room types i a → Narrow a
-narrow N L K E I u O F b d loader room types i (Unresolved r) h = tt
-narrow N L K E I u O F b d loader room types i (Resolved one p) h = let s = declaring-some (quick_base N L K E) loader i one h.declared in omega (arith, u.loaders s.0, s.1)
+narrow N L K E I u O F b d loader room types i (Rust.Err r) h = tt
+narrow N L K E I u O F b d loader room types i (Rust.Ok a) h = let s = declaring-some (quick_base N L K E) loader i a.loader h.declared in omega (arith, u.loaders s.0, s.1)
 
 -- room for one frame more, where m are below
 pub frames-room : (F : List ℕ) (k m : ℕ) → ltb (m + 1) 32 ≡ frame_room (stack (frame_in F k) m)

@@ -1,5 +1,6 @@
 -- What a run remembers of a place: the slot of the field that is named there, for receivers of a class. It stays right while a run steps.
 use Rattle.std.specs.Prelude.{◌≡◌, refl, true, List, [], ◌∷◌, ℕ, zero, suc, ◌+◌, ◌*◌, ◌<◌, ◌≤◌, length, get_or, set, replicate}
+use Rattle.std.specs.Prelude as Rust
 use Rattle.std.proofs.Common.{sym, ap, ◌∙◌, arith, eq-eqb}
 use Rattle.std.proofs.Math.Option.{some, some-injective}
 use Rattle.definition.specs.Lists.{rows, index_of}
@@ -28,6 +29,10 @@ pub record Slot (N L K E I : List ℕ) (loader c n t r j : ℕ) : Type 0 where
   pub fact : FieldFact (quick_base N L K E) (rows (tie_at I) (get_or N 3 0) 0) loader c n t r j
   pub used : j < used_fields (quick_base N L K E) r
 
+-- what is there is one
+pub some-is : {X : Type 0} {x y : X} → Rust.Some x ≡ Rust.Some y → x ≡ y
+some-is h = cc
+
 -- f is right for the instruction, of a class with that loader, and receivers of class r
 abbrev pub FactOf : List ℕ → List ℕ → List ℕ → List ℕ → List ℕ → ℕ → Instruction → ℕ → ℕ → Type 0
 FactOf N L K E I loader AconstNull r f = ⊥
@@ -55,6 +60,10 @@ Reads N L K c m p i s = decode (file_version (file_in N L K c)) (code_of N L K c
 -- f is right for the instruction at point p of the method with that number, and receivers of class r
 pub record Fact (N L K E I : List ℕ) (key p r f : ℕ) : Type 0 where
   pub holds : (c m : ℕ) → m < 8 → key ≡ 8 * c + m → (i : Instruction) (s : ℕ) → Reads N L K c m p i s → FactOf N L K E I (loader_in N L c) i r f
+
+-- the same of a place that is remembered
+abbrev pub Noted : List ℕ → List ℕ → List ℕ → List ℕ → List ℕ → ℕ → ℕ → ℕ → ℕ → Type 0
+Noted N L K E I key p r f = Fact N L K E I key p r f × (key < 512) × (p < 512) × (r < 64)
 
 -- every fact that is recalled is right
 pub record Minds (N L K E I T A : List ℕ) : Type 0 where

@@ -20,7 +20,7 @@ use Rattle.instructions.specs.Plans.{decoded, meaning}
 use Rattle.instructions.specs.Operands.{positive, is_kind, kind-is}
 use Rattle.resolution.specs.Quick.{quick_base}
 use Rattle.access.specs.Accesses.{world_in}
-use Rattle.posting.specs.declared.Posting.TheVariants.{Nothing}
+use Rattle.std.specs.Prelude as Rust
 use Rattle.posting.specs.Postings.{to_post}
 use Rattle.execution.specs.Decisions.{Acted}
 use Rattle.execution.specs.Remembered.{getfield-known, putfield-known}
@@ -42,7 +42,7 @@ module _ (N L K E I S O F : List ℕ) where
     unfolding object_at
     held = let e : 0 + j ≡ j = omega arith in rw (class, rows_at (field_at O o) (used_fields B r) 0 j h.used, e, value)
 
-    pub acted-get : Acted N L K E I S O F k m b d loader (Getfield c n t) Nothing (Above (d - 1) v)
+    pub acted-get : Acted N L K E I S O F k m b d loader (Getfield c n t) Rust.None (Above (d - 1) v)
     unfolding to_post meaning frame_of object_at
     acted-get = record { says = says; ties = omega arith; quiet = tt; fits = λ few. omega (arith, positive d some-d) }
       where
@@ -64,7 +64,7 @@ module _ (N L K E I S O F : List ℕ) where
         rw (last, top)
         (stack_top (operand_at F b) d (omega arith) ∙ ap (λ (l : List Value). operand_at F b (d - 1) ∷ l) (stack_top (operand_at F b) (d - 1) (omega arith)))
 
-    pub acted-put : Acted N L K E I S O F k m b d loader (Putfield c n t) Nothing (Field (d - 1 - 1) o j v)
+    pub acted-put : Acted N L K E I S O F k m b d loader (Putfield c n t) Rust.None (Field (d - 1 - 1) o j v)
     unfolding to_post meaning frame_of object_at take? ◌>>=◌
     acted-put = record { says = says; ties = omega arith; quiet = tt; fits = λ few. (made, rw class h.used) }
       where

@@ -30,9 +30,8 @@ use Rattle.frames.specs.Unused.{unused_from, unused-is}
 use Rattle.resolution.specs.Quick.{quick_base, quick_of}
 use Rattle.resolution.specs.Unbroken.{quick-rows}
 use Rattle.access.specs.Accesses.{world_in}
-use Rattle.opening.specs.declared.Opening.{Opening}
-use Rattle.opening.specs.declared.Opening.TheVariants.{Deny, First}
-use Rattle.opening.specs.Openings.{opened_as, Opened}
+use Rattle.std.specs.Prelude as Rust
+use Rattle.opening.specs.Openings.{Answered, deny, first, opened_as, Opened}
 use Rattle.execution.specs.Steps.{usable}
 use Rattle.execution.specs.Turns.{same-world}
 
@@ -52,7 +51,7 @@ pub start-broken : (k l n m v : ℕ) (t : Tables) → broken t ≡ true → done
 unfolding perform wrap
 start-broken k l n m v t h = rw (h, wrap)
 
-module _ (N L K E I S O F : List ℕ) (whole : broken (tables N L K E I S O F) ≡ false) (k l n m v : ℕ) (r : Opening) (opened : Opened N L K E k l n m r) where
+module _ (N L K E I S O F : List ℕ) (whole : broken (tables N L K E I S O F) ≡ false) (k l n m v : ℕ) (r : Answered) (opened : Opened N L K E k l n m r) where
   abbrev T : Tables
   T = tables N L K E I S O F
 
@@ -69,10 +68,10 @@ module _ (N L K E I S O F : List ℕ) (whole : broken (tables N L K E I S O F) �
       >>= λ o. given Accepted (closed (progressed k (sym (quick-rows T whole) i) o)))
       ∙ ap (λ (x : Result Progress). x >>= λ o. given Accepted (closed (progressed k (view_over base T) o))) (unfold view_over in sym (opened.says I S O F v)))))
 
-  pub start-denied : (w : Refusal) → r ≡ Deny w → done (Denied w) T ≡ perform (call_start k l n m v) T
+  pub start-denied : (w : Refusal) → r ≡ deny w → done (Denied w) T ≡ perform (call_start k l n m v) T
   start-denied w e = sym (starts ∙ (unfold opened_as ◌>>=◌ carried in rw e))
 
-  pub start_first : (c s j o : ℕ) (C P G : List ℕ) → r ≡ First c s j o → C ≡ set (set (set (set N 5 (rows_with o (get_or N 5 0))) (8 + o) (suc k)) (6 + k) 1) loads_cell 0
+  pub start_first : (c s j o : ℕ) (C P G : List ℕ) → r ≡ first c s j o → C ≡ set (set (set (set N 5 (rows_with o (get_or N 5 0))) (8 + o) (suc k)) (6 + k) 1) loads_cell 0
       → P ≡ put_object O o (new_object base c) → G ≡ put_frame F (frame_base k 0) (entry_frame s j o (int_value v ∷ []))
       → done Accepted (tables C L K E I S P G) ≡ perform (call_start k l n m v) T
   unfolding opened_as ◌>>=◌ carried
@@ -91,15 +90,15 @@ module _ (N L K E I S O F : List ℕ) (whole : broken (tables N L K E I S O F) �
 
 -- The decision on a start of any tables
 
-abbrev pub Opens : Tables → ℕ → ℕ → ℕ → ℕ → Opening → Type 0
-Opens t k l n m (Deny w) = (v : ℕ) → done (Denied w) t ≡ perform (call_start k l n m v) t
-Opens t k l n m (First c s j o) = (broken t ≡ false) × Opened t.counts t.classes t.kept t.cache k l n m (First c s j o)
+abbrev pub Opens : Tables → ℕ → ℕ → ℕ → ℕ → Answered → Type 0
+Opens t k l n m (Rust.Err w) = (v : ℕ) → done (Denied w) t ≡ perform (call_start k l n m v) t
+Opens t k l n m (Rust.Ok a) = (broken t ≡ false) × Opened t.counts t.classes t.kept t.cache k l n m (Rust.Ok a)
 
-pub opens : (t : Tables) → broken t ≡ false → (k l n m : ℕ) (r : Opening) → Opened t.counts t.classes t.kept t.cache k l n m r → Opens t k l n m r
-opens t h k l n m (Deny w) o =
-    λ v. start-denied t.counts t.classes t.kept t.cache t.ties t.subtypes t.objects t.frames h k l n m v (Deny w) o w refl
-opens t h k l n m (First c s j o) x = (h, x)
+pub opens : (t : Tables) → broken t ≡ false → (k l n m : ℕ) (r : Answered) → Opened t.counts t.classes t.kept t.cache k l n m r → Opens t k l n m r
+opens t h k l n m (Rust.Err w) o =
+    λ v. start-denied t.counts t.classes t.kept t.cache t.ties t.subtypes t.objects t.frames h k l n m v (deny w) o w refl
+opens t h k l n m (Rust.Ok a) x = (h, x)
 
 -- what beginning the task asks
-pub begin-ready : (t : Tables) (k l n m c s j o : ℕ) → Opens t k l n m (First c s j o) → (k < 2) × (o < 256) × (size_of (quick_of t) c ≤ 16)
+pub begin-ready : (t : Tables) (k l n m c s j o : ℕ) → Opens t k l n m (first c s j o) → (k < 2) × (o < 256) × (size_of (quick_of t) c ≤ 16)
 begin-ready t k l n m c s j o h = let f = h.1.fits in (f.0, f.2, (usable t h.0).sizes _ c f.3)

@@ -30,7 +30,6 @@ use Rattle.resolution.specs.Quick.{quick_base, quick_of, file_in, loader_in, ver
 use Rattle.resolution.specs.Unbroken.{quick-base, row_first, row_other}
 use Rattle.execution.specs.Decisions.{Usable, Acted}
 use Rattle.verifier.specs.declared.decoding.Reading.{Reading}
-use Rattle.verifier.specs.declared.decoding.Reading.TheVariants.{At, Unreadable}
 use Rattle.verifier.specs.Decoding.{reading_of, decoded_of}
 use Rattle.resolution.specs.Lookups.{code_in}
 use Rattle.frames.specs.declared.Top.{Top}
@@ -38,9 +37,8 @@ use Rattle.instructions.specs.declared.Plan.{Plan}
 use Rattle.instructions.specs.declared.Plan.TheVariants.{Refuse}
 use Rattle.instructions.specs.Plans.{decoded, meaning, Fit}
 use Rattle.access.specs.Accesses.{world_in}
-use Rattle.posting.specs.declared.Posting.{Posting}
-use Rattle.posting.specs.declared.Posting.TheVariants.{Nothing}
-use Rattle.posting.specs.Postings.{to_post, Quiet}
+use Rattle.std.specs.Prelude as Rust
+use Rattle.posting.specs.Postings.{Posting, to_post, Quiet}
 use Rattle.execution.specs.Carried.{Ready}
 
 -- The code of a frame's method, none if there is no such class or method
@@ -222,7 +220,7 @@ next_small N L K v c j p i e h = omega (
 
 -- An answer of decoding, and what was decoded
 
-module _ (o : Option Decoded) (r : Reading) (reads : r ≡ reading_of o) where
+module _ (o : Option Decoded) (r : Rust.Option Reading) (reads : r ≡ reading_of o) where
   back : decoded_of r ≡ o
   unfolding decoded_of reading_of
   back = rw reads (go o)
@@ -231,13 +229,13 @@ module _ (o : Option Decoded) (r : Reading) (reads : r ≡ reading_of o) where
       go none = refl
       go (some d) = refl
 
-  pub unread : r ≡ Unreadable → o ≡ none
+  pub unread : r ≡ Rust.None → o ≡ none
   unfolding decoded_of
   unread e = sym back ∙ rw e
 
-  pub read_at : (i : Instruction) (n : ℕ) → r ≡ At i n → o ≡ some (decoded i n)
+  pub read_at : (d : Reading) → r ≡ Rust.Some d → o ≡ some (decoded d.instruction d.size)
   unfolding decoded_of
-  read_at i n e = sym back ∙ rw e
+  read_at d e = sym back ∙ rw e
 
 -- A top frame as its cells say: where its row begins, its number of operands, and the loader of its class
 abbrev pub IsTop : List ℕ → List ℕ → List ℕ → Top → Type 0
@@ -276,11 +274,11 @@ module _ (N L K E I S O F : List ℕ) (whole : broken (tables N L K E I S O F) �
     unfolding frame_in frame_at frame_of
     here = rw (version, version-read c class, source, code_read c j class method, point, row)
 
-    pub chosen-unreadable : (q : ℕ) → decode v code p ≡ none → Chosen N L K E I S O F k m b Nothing (Refuse (Word 14)) q
+    pub chosen-unreadable : (q : ℕ) → decode v code p ≡ none → Chosen N L K E I S O F k m b Rust.None (Refuse (Word 14)) q
     unfolding meaning to_post
     chosen-unreadable q h = record {
       says = sym (step-unreadable k (world_in B T) (objects_of B T) (frame_in F k m) (stack (frame_in F k) m) (here ∙ h));
-      ready = ready Nothing (Refuse (Word 14)) (omega (arith, (usable T whole).counts.ties)) refl tt;
+      ready = ready Rust.None (Refuse (Word 14)) (omega (arith, (usable T whole).counts.ties)) refl tt;
     }
 
     -- the point after the instruction is a number of 32 bits

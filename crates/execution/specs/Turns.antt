@@ -29,8 +29,7 @@ use Rattle.resolution.specs.Unbroken.{quick-base, quick-rows}
 use Rattle.access.specs.Accesses.{world_in}
 use Rattle.instructions.specs.declared.Plan.{Plan}
 use Rattle.tasks.specs.Turns.{turn_of}
-use Rattle.posting.specs.declared.Posting.{Posting}
-use Rattle.posting.specs.Postings.{to_post}
+use Rattle.posting.specs.Postings.{Posting, to_post}
 use Rattle.execution.specs.Carried.{grouped_on, closed_by, planned, Left, left-ties, left-planned}
 use Rattle.execution.specs.Steps.{Chosen}
 

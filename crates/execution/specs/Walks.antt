@@ -29,7 +29,7 @@ use Rattle.instructions.specs.declared.Plan.{Plan}
 use Rattle.instructions.specs.declared.Plan.TheVariants.{Refuse, Keep, Jump, Above, Local, Give, Finish, Field, Enter, Make}
 use Rattle.instructions.specs.Plans.{decoded, Fit, FrameOnly}
 use Rattle.instructions.specs.Operands.{positive}
-use Rattle.posting.specs.declared.Posting.TheVariants.{Nothing}
+use Rattle.std.specs.Prelude as Rust
 use Rattle.posting.specs.Postings.{to_post}
 use Rattle.execution.specs.Decisions.{Acted, acted-frame}
 use Rattle.execution.specs.Carried.{Left}
@@ -117,7 +117,7 @@ module _ (N L K E I S F : List ℕ) (k n b v : ℕ) (code : List ℕ) (turns : k
     pub size : ℕ
     pub plan : Plan
     pub reads : decode v code p ≡ some (decoded instruction size)
-    pub acted : Acted N L K E I S O (pasted F b R) k (n - 1) b d (loader_in N L (get_or R 0 0)) instruction Nothing plan
+    pub acted : Acted N L K E I S O (pasted F b R) k (n - 1) b d (loader_in N L (get_or R 0 0)) instruction Rust.None plan
     pub leaves : Left (quick_base N L K E) N O (pasted F b R) k (n - 1) b (p + size) plan (Ran k) N P (pasted F b G)
 
   -- what is remembered of the instruction at point p, for the receiver
@@ -189,10 +189,10 @@ module _ (N L K E I S F : List ℕ) (k n b v : ℕ) (code : List ℕ) (turns : k
       done-as : Does R O p d G P
       done-as = does s
 
-      choice : Chosen N L K E I S O (pasted F b R) k (n - 1) b Nothing done-as.plan (p + done-as.size)
+      choice : Chosen N L K E I S O (pasted F b R) k (n - 1) b Rust.None done-as.plan (p + done-as.size)
       choice =
           chosen N L K E I S O (pasted F b R) st.whole k (n - 1) b two (count R O st) row (get_or R 0 0) (get_or R 1 0) p v code (class-cell R O st) (cell R O st 1 (omega arith))
-          (at ∙ cell R O st 2 (omega arith)) st.source st.version done-as.instruction done-as.size d (loader_in N L (get_or R 0 0)) Nothing done-as.plan done-as.reads
+          (at ∙ cell R O st 2 (omega arith)) st.source st.version done-as.instruction done-as.size d (loader_in N L (get_or R 0 0)) Rust.None done-as.plan done-as.reads
           (deep ∙ cell R O st 3 (omega arith)) refl done-as.acted
 
       -- the instruction is a step of the machine
@@ -200,7 +200,7 @@ module _ (N L K E I S F : List ℕ) (k n b v : ℕ) (code : List ℕ) (turns : k
       unfolding to_post write_rows rows
       stepped =
           let z : get_or N 3 0 + 0 ≡ get_or N 3 0 = omega arith in
-          turn-carried N L K E I S O (pasted F b R) st.whole k n turns frames some-n b (p + done-as.size) Nothing done-as.plan choice
+          turn-carried N L K E I S O (pasted F b R) st.whole k n turns frames some-n b (p + done-as.size) Rust.None done-as.plan choice
           N I (sym (ap (set N 3) z ∙ set-get_or N 3 0)) refl (Ran k) N P (pasted F b G) done-as.leaves (get_or N 3 0) (get_or N 4 0) refl refl
           N (sym (set-get_or N loads_cell 0) ∙ ap (set N loads_cell) closed)
 

@@ -11,6 +11,7 @@ use crate::memory::key_of;
 use crate::reaching::{Pace, walk};
 use definition::Answer;
 use definition::numbers::{FRAME_CELLS, LOADS_CELL, VERSION_THREE, VERSION_TWO};
+use resolution::Base;
 
 // No code is longer.
 const CODE_LIMIT: usize = 65535;
@@ -20,9 +21,10 @@ pub(crate) fn last_of(counts: &[u16], more: u16, last: Answer) -> Answer
     ensures { result ≡ last_of more (turn_of counts.now) last }
 {
     if more == 0 {
-        return last;
+        last
+    } else {
+        Answer::Ran(tasks::turn(counts))
     }
-    Answer::Ran(tasks::turn(counts))
 }
 
 // Where the numbers of the opcodes of a version begin.
@@ -45,38 +47,30 @@ fn no_walk() -> Pace
 pub(crate) fn go_ahead(
     tags: &[u32],
     facts: &[u32],
-    counts: &[u16],
-    classes: &[u16],
-    kept: &[u8],
+    base: &Base,
     objects: &mut [u32],
     frames: &mut [u32],
     opcodes: &[u8],
     most: u16,
 ) -> Pace
-    requires { Sound counts.now classes.now kept.now frames.old × (opcodes.now ≡ numbers) }
-    ensures { ((E I S : List ℕ) → broken (tables counts.now classes.now kept.now E I S objects.old frames.old) ≡ false → Minds counts.now classes.now kept.now E I tags.now facts.now → Ahead (turn_of counts.now) result.steps (tables counts.now classes.now kept.now E I S objects.old frames.old) (tables counts.now classes.now kept.now E I S objects.new frames.new)) × (result.steps ≤ most) }
+    requires { Sound base.now.counts.now base.now.classes.now base.now.kept.now frames.old × (opcodes.now ≡ numbers) }
+    ensures { ((E I S : List ℕ) → broken (tables base.now.counts.now base.now.classes.now base.now.kept.now E I S objects.old frames.old) ≡ false → Minds base.now.counts.now base.now.classes.now base.now.kept.now E I tags.now facts.now → Ahead (turn_of base.now.counts.now) result.steps (tables base.now.counts.now base.now.classes.now base.now.kept.now E I S objects.old frames.old) (tables base.now.counts.now base.now.classes.now base.now.kept.now E I S objects.new frames.new)) × (result.steps ≤ most) }
 {
-    if most == 0 {
+    if most == 0 || cells::at(base.counts, LOADS_CELL) != 0 {
         return no_walk();
     }
-    if cells::at(counts, LOADS_CELL) != 0 {
-        return no_walk();
-    }
-    let task = tasks::turn(counts);
-    let n = tasks::frame_count(counts, task);
+    let task = tasks::turn(base.counts);
+    let n = tasks::frame_count(base.counts, task);
     if n == 0 {
         return no_walk();
     }
     let b = frames::row(task, n - 1);
     let c = frames::frame_class(frames, b);
     let m = frames::frame_method(frames, b);
-    if 64 <= c {
+    if 64 <= c || 8 <= m {
         return no_walk();
     }
-    if 8 <= m {
-        return no_walk();
-    }
-    let file = resolution::file_of(counts, classes, kept, c);
+    let file = base.file_of(c);
     let code = resolution::code_of(file, m);
     if CODE_LIMIT < code.len() {
         return no_walk();
@@ -90,7 +84,7 @@ pub(crate) fn go_ahead(
     walk(
         tags,
         facts,
-        counts,
+        base.counts,
         objects,
         row,
         &opcodes[first..last],

@@ -7,7 +7,7 @@ ghost use Rattle.definition.specs.Tables.{tables, put_tie, put_number, value_of,
 ghost use Rattle.definition.specs.Calls.{numbers_from};
 ghost use Rattle.layout.specs.Cells.{moved};
 ghost use Rattle.layout.specs.OwnedRows.{rows_with};
-ghost use Rattle.resolution.specs.Quick.{quick_base};
+ghost use Rattle.resolution.specs.Quick.{base_of, quick_base};
 ghost use Rattle.instructions.specs.Plans.{Fit};
 ghost use Rattle.posting.specs.Postings.{to_post};
 ghost use Rattle.execution.specs.Carried.{Left};
@@ -19,7 +19,8 @@ use definition::numbers::{
 };
 use frames::{Cell, Top};
 use instructions::Plan;
-use posting::Posting;
+use posting::Ties;
+use resolution::Base;
 
 // Where the numbers of ties begin, in 16 bits.
 const TIE_NUMBERS: u16 = TIE_NUMBERS_CELL as u16;
@@ -32,7 +33,7 @@ pub(crate) struct Before {
 }
 
 // Ties posted: their rows and their count. Where there are none nothing is written, so a refused step writes nothing. Answers how many rows there were.
-pub(crate) fn post_ties(counts: &mut [u16], ties: &mut [u16], posting: Posting) -> Before
+pub(crate) fn post_ties(counts: &mut [u16], ties: &mut [u16], posting: Option<Ties>) -> Before
     requires { get_or counts.old count_ties 0 + length (to_post posting) ≤ tie_limit }
     ensures counted { counts.new ≡ set counts.old count_ties (get_or counts.old count_ties 0 + length (to_post posting)) }
     ensures written { ties.new ≡ write_rows put_tie (to_post posting) (get_or counts.old count_ties 0) ties.old }
@@ -50,7 +51,7 @@ pub(crate) fn post_ties(counts: &mut [u16], ties: &mut [u16], posting: Posting) 
 }
 
 // Posted ties get the numbers behind all that were there.
-pub(crate) fn number_ties(counts: &mut [u16], before: Before, posting: Posting)
+pub(crate) fn number_ties(counts: &mut [u16], before: Before, posting: Option<Ties>)
     requires { (before.ties + length (to_post posting) ≤ tie_limit) × (before.subtypes ≤ subtype_limit) }
     ensures { counts.new ≡ write_rows (put_number tie_numbers_cell) (numbers_from (before.ties + before.subtypes) (length (to_post posting))) before.ties counts.old }
 {
@@ -96,20 +97,12 @@ fn give(counts: &mut [u16], frames: &mut [u32], top: Top, v: Cell)
 }
 
 // The row of a new object of class c.
-pub(crate) fn write_new(
-    counts: &[u16],
-    classes: &[u16],
-    kept: &[u8],
-    cache: &[u16],
-    objects: &mut [u32],
-    o: u32,
-    c: u32,
-)
-    requires { size_of (quick_base counts.now classes.now kept.now cache.now) c ≤ field_limit }
-    ensures { objects.new ≡ put_object objects.old o (new_object (quick_base counts.now classes.now kept.now cache.now) c) }
+pub(crate) fn write_new(base: &Base, objects: &mut [u32], o: u32, c: u32)
+    requires { size_of (base_of base.now) c ≤ field_limit }
+    ensures { objects.new ≡ put_object objects.old o (new_object (base_of base.now) c) }
 {
     let mut types = [0u16; FIELD_LIMIT as usize];
-    let n = resolution::slot_types(&mut types, counts, classes, kept, cache, c);
+    let n = base.slot_types(&mut types, c);
     frames::write_object(objects, o, c, &types, n as u8);
 }
 
@@ -151,7 +144,13 @@ fn make(
     ensures made { objects.new ≡ put_object objects.old o (new_object (quick_base counts.old classes.now kept.now cache.now) c) }
     ensures pushed { frames.new ≡ put_operand b (moved frames.old b q (d + 1)) d (object_value o) }
 {
-    write_new(counts, classes, kept, cache, objects, u32::from(o), c);
+    let base = Base {
+        counts,
+        classes,
+        kept,
+        cache,
+    };
+    write_new(&base, objects, u32::from(o), c);
     push(
         frames,
         b,

@@ -12,8 +12,8 @@ use definition::numbers::{FRAME_LIMIT, WORD_STUCK};
 use definition::{Arguments, Instruction};
 use frames::Top;
 use instructions::Plan;
-use posting::Posting;
-use verifier::Reading;
+use posting::Ties;
+use resolution::Base;
 
 // What a new object asks for. The lowest number unused may be sought from `free` on; `made` is how many objects the report made, if it is the report's turn.
 #[derive(Clone, Copy)]
@@ -24,10 +24,7 @@ pub(crate) struct Room {
 
 // The decision on an instruction of the top frame of a task.
 fn act(
-    counts: &[u16],
-    classes: &[u16],
-    kept: &[u8],
-    cache: &[u16],
+    base: &Base,
     ties: &[u16],
     subtypes: &[u16],
     objects: &[u32],
@@ -36,8 +33,8 @@ fn act(
     i: Instruction,
     room: Room,
 ) -> Decision
-    requires { Usable counts.now classes.now kept.now cache.now ties.now × (top.row < frame_limit) × RoomFor counts.now top.task room.free room.made × (top.loader < loader_limit) }
-    ensures { Acted counts.now classes.now kept.now cache.now ties.now subtypes.now objects.now frames.now top.task top.row top.base top.depth top.loader i result.posting result.plan }
+    requires { Usable base.now.counts.now base.now.classes.now base.now.kept.now base.now.cache.now ties.now × (top.row < frame_limit) × RoomFor base.now.counts.now top.task room.free room.made × (top.loader < loader_limit) }
+    ensures { Acted base.now.counts.now base.now.classes.now base.now.kept.now base.now.cache.now ties.now subtypes.now objects.now frames.now top.task top.row top.base top.depth top.loader i result.posting result.plan }
 {
     match i {
         Instruction::AconstNull => plain(instructions::aconst_null(top)),
@@ -48,10 +45,7 @@ fn act(
         Instruction::Dup => plain(instructions::dup(frames, top)),
         Instruction::Arithmetic(o) => plain(instructions::arithmetic(frames, top, o)),
         Instruction::Getfield(class, name, of) => settle_access(
-            counts,
-            classes,
-            kept,
-            cache,
+            base,
             ties,
             subtypes,
             true,
@@ -59,14 +53,11 @@ fn act(
             Arguments::NoArguments,
             of,
             access::getfield(
-                counts, classes, kept, cache, objects, frames, top, class, name, of,
+                base, objects, frames, top, class, name, of,
             ),
         ),
         Instruction::Putfield(class, name, of) => settle_access(
-            counts,
-            classes,
-            kept,
-            cache,
+            base,
             ties,
             subtypes,
             true,
@@ -74,35 +65,29 @@ fn act(
             Arguments::NoArguments,
             of,
             access::putfield(
-                counts, classes, kept, cache, objects, frames, top, class, name, of,
+                base, objects, frames, top, class, name, of,
             ),
         ),
         Instruction::Invokevirtual(class, s) => {
             let arguments = s.arguments;
             settle_access(
-                counts,
-                classes,
-                kept,
-                cache,
+                base,
                 ties,
                 subtypes,
                 top.row + 1 < FRAME_LIMIT,
                 top.loader,
                 arguments,
                 s.result,
-                access::invokevirtual(counts, classes, kept, cache, objects, frames, top, class, s),
+                access::invokevirtual(base, objects, frames, top, class, s),
             )
         }
         Instruction::New(class) => plain(access::new_object(
-            counts,
-            classes,
-            kept,
-            cache,
+            base,
             objects,
             frames,
             top,
             class,
-            frames::unused(counts, room.free),
+            frames::unused(base.counts, room.free),
             room.made,
         )),
         Instruction::Return(k) => plain(instructions::give_back(frames, top, k)),
@@ -113,33 +98,30 @@ fn act(
 // What a step chooses: ties, a plan, and the point at which the frame goes on unless it jumps.
 #[derive(Clone, Copy)]
 pub struct Choice {
-    pub posting: Posting,
+    pub posting: Option<Ties>,
     pub plan: Plan,
     pub next: u32,
 }
 
 // The top frame of a task, in row m, as its cells say.
-pub(crate) fn top_frame(counts: &[u16], classes: &[u16], frames: &[u32], task: u8, m: u16) -> Top
-    requires { (c : ℕ) → loader_in counts.now classes.now c < loader_limit }
-    ensures { (result.task ≡ task) × (result.row ≡ m) × IsTop counts.now classes.now frames.now result }
+pub(crate) fn top_frame(base: &Base, frames: &[u32], task: u8, m: u16) -> Top
+    requires { (c : ℕ) → loader_in base.now.counts.now base.now.classes.now c < loader_limit }
+    ensures { (result.task ≡ task) × (result.row ≡ m) × IsTop base.now.counts.now base.now.classes.now frames.now result }
 {
-    let base = frames::row(task, m);
-    let loader = resolution::loader_of(counts, classes, frames::frame_class(frames, base));
+    let b = frames::row(task, m);
+    let loader = base.loader_of(frames::frame_class(frames, b));
     Top {
         task,
         row: m,
-        base,
-        depth: frames::depth(frames, base),
+        base: b,
+        depth: frames::depth(frames, b),
         loader: loader as u8,
     }
 }
 
 // The choice for the top frame of a task.
 pub(crate) fn choose(
-    counts: &[u16],
-    classes: &[u16],
-    kept: &[u8],
-    cache: &[u16],
+    base: &Base,
     ties: &[u16],
     subtypes: &[u16],
     objects: &[u32],
@@ -147,30 +129,35 @@ pub(crate) fn choose(
     top: Top,
     room: Room,
 ) -> Choice
-    requires { (broken (tables counts.now classes.now kept.now cache.now ties.now subtypes.now objects.now frames.now) ≡ false) × (top.task < task_limit) × (get_or counts.now (count_frames + top.task) 0 ≡ suc top.row) × IsTop counts.now classes.now frames.now top × RoomFor counts.now top.task room.free room.made }
-    ensures { Chosen counts.now classes.now kept.now cache.now ties.now subtypes.now objects.now frames.now top.task top.row top.base result.posting result.plan result.next }
+    requires { (broken (tables base.now.counts.now base.now.classes.now base.now.kept.now base.now.cache.now ties.now subtypes.now objects.now frames.now) ≡ false) × (top.task < task_limit) × (get_or base.now.counts.now (count_frames + top.task) 0 ≡ suc top.row) × IsTop base.now.counts.now base.now.classes.now frames.now top × RoomFor base.now.counts.now top.task room.free room.made }
+    ensures { Chosen base.now.counts.now base.now.classes.now base.now.kept.now base.now.cache.now ties.now subtypes.now objects.now frames.now top.task top.row top.base result.posting result.plan result.next }
 {
     let c = frames::frame_class(frames, top.base);
     let p = frames::point(frames, top.base);
     let j = frames::frame_method(frames, top.base);
-    let file = resolution::file_of(counts, classes, kept, c);
+    let file = base.file_of(c);
     let code = resolution::code_of(file, j);
     let version = classfile::version(file);
-    let Reading::At(i, n) = verifier::decode(version, code, p as usize) else {
+    let Some(read) = verifier::decode(version, code, p as usize) else {
         return Choice {
-            posting: Posting::Nothing,
+            posting: None,
             plan: instructions::refuse(WORD_STUCK),
             next: 0,
         };
     };
     let r = act(
-        counts, classes, kept, cache, ties, subtypes, objects, frames, top, i, room,
+        base,
+        ties,
+        subtypes,
+        objects,
+        frames,
+        top,
+        read.instruction,
+        room,
     );
-    let posting = r.posting;
-    let plan = r.plan;
     Choice {
-        posting,
-        plan,
-        next: (p as usize + n) as u32,
+        posting: r.posting,
+        plan: r.plan,
+        next: (p as usize + read.size) as u32,
     }
 }

@@ -15,16 +15,12 @@ use crate::opcodes::OPCODE_NUMBERS;
 use crate::turns::step_unbroken;
 use definition::numbers::{RUN_LIMIT, WORD_UNKNOWN};
 use definition::{Answer, Refusal, Reply};
+use resolution::Base;
 
 fn is_ran(a: Answer) -> bool
     ensures { result ≡ goes_on a }
 {
-    match a {
-        Answer::Idle => false,
-        Answer::Ran(_) => true,
-        Answer::Finished(_, _) => false,
-        Answer::Refused(_) => false,
-    }
+    matches!(a, Answer::Ran(_))
 }
 
 // The lowest number unused and how many objects the report, task 1, made, before the first step of a run.
@@ -85,9 +81,13 @@ fn steps(
     let mut room = first_room(counts);
     let mut stop: u8 = 0;
     while k < n {
-        note(
-            tags, facts, counts, classes, kept, cache, ties, objects, frames, stop,
-        );
+        let base = Base {
+            counts,
+            classes,
+            kept,
+            cache,
+        };
+        note(tags, facts, &base, ties, objects, frames, stop);
         let turn = tasks::turn(counts);
         let a = step_unbroken(
             counts, classes, kept, cache, ties, subtypes, objects, frames, room,
@@ -97,12 +97,16 @@ fn steps(
         }
         room = next_room(counts, room, turn);
         k += 1;
-        let more = go_ahead(
-            tags,
-            facts,
+        let base = Base {
             counts,
             classes,
             kept,
+            cache,
+        };
+        let more = go_ahead(
+            tags,
+            facts,
+            &base,
             objects,
             frames,
             opcodes,

@@ -22,73 +22,59 @@ use definition::numbers::{
 };
 use definition::{Arguments, Check, Refusal};
 use instructions::Plan;
-use posting::Posting;
-
-// A table copied into another of its length.
-fn copy_rows(to: &mut [u16], from: &[u16])
-    requires { length to.old ≡ length from.now }
-    ensures { to.new ≡ from.now }
-{
-    let mut i = 0;
-    while i < from.len() {
-        to[i] = from[i];
-        i += 1;
-    }
-}
+use posting::Ties;
+use resolution::Base;
 
 // The check of the store with ties that are to be posted, tried on a copy of the ties, with the groups that they make. There is no newcomer: the row behind the last
 // isn't one.
 fn check_ties(
-    counts: &[u16],
-    classes: &[u16],
-    kept: &[u8],
-    cache: &[u16],
+    base: &Base,
     ties: &[u16],
     subtypes: &[u16],
-    posting: Posting,
+    posting: Option<Ties>,
 ) -> Check
-    requires { Counts counts.now × (length ties.now ≡ ties_length) × (get_or counts.now count_ties 0 + length (to_post posting) ≤ tie_limit) × All Between (rows (tie_at ties.now) (get_or counts.now count_ties 0) 0) × All Between (to_post posting) }
-    ensures { Names (posted (world_in (quick_base counts.now classes.now kept.now cache.now) (tables counts.now classes.now kept.now cache.now ties.now subtypes.now [] [])) (to_post posting)) none result }
+    requires { Counts base.now.counts.now × (length ties.now ≡ ties_length) × (get_or base.now.counts.now count_ties 0 + length (to_post posting) ≤ tie_limit) × All Between (rows (tie_at ties.now) (get_or base.now.counts.now count_ties 0) 0) × All Between (to_post posting) }
+    ensures { Names (posted (world_in (quick_base base.now.counts.now base.now.classes.now base.now.kept.now base.now.cache.now) (tables base.now.counts.now base.now.classes.now base.now.kept.now base.now.cache.now ties.now subtypes.now [] [])) (to_post posting)) none result }
 {
-    let n = cells::at(counts, COUNT_TIES);
+    let n = cells::at(base.counts, COUNT_TIES);
     let mut tried = [0u16; TIES_LENGTH];
-    copy_rows(&mut tried, ties);
+    tried.copy_from_slice(ties);
     posting::write_ties(&mut tried, n, posting);
     let count = n + posting::tie_number(posting);
     let mut groups = [0u16; TIE_LIMIT as usize];
     groups::group_rows(&tried, count, &mut groups);
     let mut supers = [0u8; CLASS_LIMIT as usize];
-    resolution::fill_supers(&mut supers, counts, classes, kept, cache);
+    base.fill_supers(&mut supers);
     constraints::check(
         &supers,
-        cache,
-        cells::at(counts, COUNT_CACHE),
+        base.cache,
+        cells::at(base.counts, COUNT_CACHE),
         &tried,
         count,
         &groups,
         subtypes,
-        cells::at(counts, COUNT_SUBTYPES),
-        cells::at(counts, COUNT_CACHE),
+        cells::at(base.counts, COUNT_SUBTYPES),
+        cells::at(base.counts, COUNT_CACHE),
     )
 }
 
 // What a step decides: the ties that it posts, and the plan that it then carries out.
 #[derive(Clone, Copy)]
 pub struct Decision {
-    pub posting: Posting,
+    pub posting: Option<Ties>,
     pub plan: Plan,
 }
 
 fn refused(word: u8) -> Decision
-    ensures { (result.posting ≡ Posting.Nothing) × (result.plan ≡ Plan.Refuse (Refusal.Word word)) }
+    ensures { (result.posting ≡ None) × (result.plan ≡ Plan.Refuse (Refusal.Word word)) }
 {
     Decision {
-        posting: Posting::Nothing,
+        posting: None,
         plan: instructions::refuse(word),
     }
 }
 
-fn decided(posting: Posting, plan: Plan) -> Decision
+fn decided(posting: Option<Ties>, plan: Plan) -> Decision
     ensures { (result.posting ≡ quietly posting plan) × (result.plan ≡ plan) }
 {
     Decision {
@@ -99,10 +85,7 @@ fn decided(posting: Posting, plan: Plan) -> Decision
 
 // A plan with its ties between two loaders on each of those names in turn and then on the last, or the refusal that comes before it: no room, or a clash.
 fn settle(
-    counts: &[u16],
-    classes: &[u16],
-    kept: &[u8],
-    cache: &[u16],
+    base: &Base,
     ties: &[u16],
     subtypes: &[u16],
     room: bool,
@@ -112,16 +95,16 @@ fn settle(
     last: u16,
     plan: Plan,
 ) -> Decision
-    requires { Counts counts.now × (length ties.now ≡ ties_length) × All Between (rows (tie_at ties.now) (get_or counts.now count_ties 0) 0) × (one < loader_limit) × (two < loader_limit) }
-    ensures { Settled counts.now classes.now kept.now cache.now ties.now subtypes.now room (ties_on (rows (tie_at ties.now) (get_or counts.now count_ties 0) 0) one two (types_of names ++ (last ∷ []))) plan result.posting result.plan }
+    requires { Counts base.now.counts.now × (length ties.now ≡ ties_length) × All Between (rows (tie_at ties.now) (get_or base.now.counts.now count_ties 0) 0) × (one < loader_limit) × (two < loader_limit) }
+    ensures { Settled base.now.counts.now base.now.classes.now base.now.kept.now base.now.cache.now ties.now subtypes.now room (ties_on (rows (tie_at ties.now) (get_or base.now.counts.now count_ties 0) 0) one two (types_of names ++ (last ∷ []))) plan result.posting result.plan }
 {
     if !room {
         return refused(WORD_FULL);
     }
     if one == two {
-        return decided(Posting::Nothing, plan);
+        return decided(None, plan);
     }
-    let n = cells::at(counts, COUNT_TIES);
+    let n = cells::at(base.counts, COUNT_TIES);
     let posting = posting::new_ties(ties, n, one, two, names, last);
     let k = posting::tie_number(posting);
     if k == 0 {
@@ -130,7 +113,7 @@ fn settle(
     if TIE_LIMIT < n + k {
         return refused(WORD_FULL);
     }
-    if !constraints::agreed(check_ties(counts, classes, kept, cache, ties, subtypes, posting)) {
+    if !constraints::agreed(check_ties(base, ties, subtypes, posting)) {
         return refused(WORD_CLASH);
     }
     decided(posting, plan)
@@ -138,39 +121,40 @@ fn settle(
 
 // A plan that posts nothing.
 pub(crate) fn plain(plan: Plan) -> Decision
-    ensures { (result.posting ≡ Posting.Nothing) × (result.plan ≡ plan) }
+    ensures { (result.posting ≡ None) × (result.plan ≡ plan) }
 {
     Decision {
-        posting: Posting::Nothing,
+        posting: None,
         plan,
     }
 }
 
 // What is missing is refused; what was found is settled with its ties.
 pub(crate) fn settle_access(
-    counts: &[u16],
-    classes: &[u16],
-    kept: &[u8],
-    cache: &[u16],
+    base: &Base,
     ties: &[u16],
     subtypes: &[u16],
     room: bool,
     loader: u8,
     names: Arguments,
     last: u16,
-    found: Access,
+    found: Result<Access, Refusal>,
 ) -> Decision
-    requires { Counts counts.now × (length ties.now ≡ ties_length) × All Between (rows (tie_at ties.now) (get_or counts.now count_ties 0) 0) × (loader < loader_limit) × Narrow found }
-    ensures { AccessSettled counts.now classes.now kept.now cache.now ties.now subtypes.now room loader (types_of names ++ (last ∷ [])) found result.posting result.plan }
+    requires { Counts base.now.counts.now × (length ties.now ≡ ties_length) × All Between (rows (tie_at ties.now) (get_or base.now.counts.now count_ties 0) 0) × (loader < loader_limit) × Narrow found }
+    ensures { AccessSettled base.now.counts.now base.now.classes.now base.now.kept.now base.now.cache.now ties.now subtypes.now room loader (types_of names ++ (last ∷ [])) found result.posting result.plan }
 {
     match found {
-        Access::Unresolved(r) => Decision {
-            posting: Posting::Nothing,
-            plan: Plan::Refuse(r),
-        },
-        Access::Resolved(one, plan) => settle(
-            counts, classes, kept, cache, ties, subtypes, room, one as u8, loader, names, last,
-            plan,
+        Err(refusal) => plain(Plan::Refuse(refusal)),
+        Ok(access) => settle(
+            base,
+            ties,
+            subtypes,
+            room,
+            access.loader as u8,
+            loader,
+            names,
+            last,
+            access.plan,
         ),
     }
 }

@@ -13,13 +13,11 @@ use definition::numbers::{KIND_INT, LOADS_CELL, WORD_BROKEN};
 use definition::{Refusal, Reply};
 use frames::{Cell, Entry};
 use opening::Opening;
+use resolution::Base;
 
 // The decision on a start, which first tests for 'broken'.
 fn decide_start(
-    counts: &[u16],
-    classes: &[u16],
-    kept: &[u8],
-    cache: &[u16],
+    base: &Base,
     ties: &[u16],
     subtypes: &[u16],
     objects: &[u32],
@@ -28,18 +26,25 @@ fn decide_start(
     loader: u32,
     name: u16,
     method: u16,
-) -> Opening
-    ensures { Opens (tables counts.now classes.now kept.now cache.now ties.now subtypes.now objects.now frames.now) task loader name method result }
+) -> Result<Opening, Refusal>
+    ensures { Opens (tables base.now.counts.now base.now.classes.now base.now.kept.now base.now.cache.now ties.now subtypes.now objects.now frames.now) task loader name method result }
 {
     if store::is_broken(
-        counts, classes, kept, cache, ties, subtypes, objects, frames,
+        base.counts,
+        base.classes,
+        base.kept,
+        base.cache,
+        ties,
+        subtypes,
+        objects,
+        frames,
     ) {
-        return Opening::Deny(Refusal::Word(WORD_BROKEN));
+        return Err(Refusal::Word(WORD_BROKEN));
     }
-    opening::decide(counts, classes, kept, cache, task, loader, name, method)
+    opening::decide(base, task, loader, name, method)
 }
 
-// A task begun, which closes the loads before it: a new object of class c with the number o, and a first frame in method j of class s with that object and an int.
+// A task begun, which closes the loads before it: a new object, and a first frame with that object and an int.
 fn begin(
     counts: &mut [u16],
     classes: &[u16],
@@ -48,25 +53,28 @@ fn begin(
     objects: &mut [u32],
     frames: &mut [u32],
     task: u8,
-    c: u32,
-    s: u32,
-    j: u32,
-    o: u16,
+    first: Opening,
     value: u32,
 )
-    requires { (o < object_limit) × (size_of (quick_base counts.old classes.now kept.now cache.now) c ≤ field_limit) }
-    ensures counted { counts.new ≡ set (set (set (set counts.old count_objects (rows_with o (get_or counts.old count_objects 0))) (owners_cell + o) (suc task)) (count_frames + task) 1) loads_cell 0 }
-    ensures made { objects.new ≡ put_object objects.old o (new_object (quick_base counts.old classes.now kept.now cache.now) c) }
-    ensures entered { frames.new ≡ put_frame frames.old (frame_base task 0) (entry_frame s j o (int_value value ∷ [])) }
+    requires { (first.object < object_limit) × (size_of (quick_base counts.old classes.now kept.now cache.now) first.class ≤ field_limit) }
+    ensures counted { counts.new ≡ set (set (set (set counts.old count_objects (rows_with first.object (get_or counts.old count_objects 0))) (owners_cell + first.object) (suc task)) (count_frames + task) 1) loads_cell 0 }
+    ensures made { objects.new ≡ put_object objects.old first.object (new_object (quick_base counts.old classes.now kept.now cache.now) first.class) }
+    ensures entered { frames.new ≡ put_frame frames.old (frame_base task 0) (entry_frame first.method.class first.method.place first.object (int_value value ∷ [])) }
 {
-    write_new(counts, classes, kept, cache, objects, u32::from(o), c);
+    let base = Base {
+        counts,
+        classes,
+        kept,
+        cache,
+    };
+    write_new(&base, objects, u32::from(first.object), first.class);
     frames::write_entry(
         frames,
         frames::row(task, 0),
         Entry {
-            class: s,
-            method: j,
-            object: u32::from(o),
+            class: first.method.class,
+            method: first.method.place,
+            object: u32::from(first.object),
             first: Cell {
                 kind: KIND_INT,
                 bits: value,
@@ -76,7 +84,7 @@ fn begin(
             fourth: frames::empty(),
         },
     );
-    take_row(counts, o, task);
+    take_row(counts, first.object, task);
     tasks::write_frame_count(counts, task, 1);
     cells::put(counts, LOADS_CELL, 0);
 }
@@ -99,14 +107,28 @@ pub fn start(
 ) -> Reply
     ensures { done result (tables counts.new classes.now kept.now cache.now ties.now subtypes.now objects.new frames.new) ≡ perform (call_start task loader name method value) (tables counts.old classes.now kept.now cache.now ties.now subtypes.now objects.old frames.old) }
 {
-    let r = decide_start(
-        counts, classes, kept, cache, ties, subtypes, objects, frames, task, loader, name, method,
+    let base = Base {
+        counts,
+        classes,
+        kept,
+        cache,
+    };
+    let decision = decide_start(
+        &base, ties, subtypes, objects, frames, task, loader, name, method,
     );
-    match r {
-        Opening::Deny(w) => Reply::Denied(w),
-        Opening::First(c, s, j, o) => {
+    match decision {
+        Err(refusal) => Reply::Denied(refusal),
+        Ok(first) => {
             begin(
-                counts, classes, kept, cache, objects, frames, task as u8, c, s, j, o, value,
+                counts,
+                classes,
+                kept,
+                cache,
+                objects,
+                frames,
+                task as u8,
+                first,
+                value,
             );
             Reply::Accepted
         }

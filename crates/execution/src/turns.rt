@@ -13,38 +13,32 @@ use crate::carrying::{carry_out, number_ties, post_ties};
 use crate::deciding::{Room, choose, top_frame};
 use definition::numbers::{LOADS_CELL, WORD_BROKEN};
 use definition::{Answer, Refusal};
-use posting::Posting;
+use posting::Ties;
+use resolution::Base;
 
 // The step ran or finished.
 fn went_on(a: Answer) -> bool
     ensures { result ≡ went_on a }
 {
-    match a {
-        Answer::Idle => false,
-        Answer::Ran(_) => true,
-        Answer::Finished(_, _) => true,
-        Answer::Refused(_) => false,
-    }
+    matches!(a, Answer::Ran(_) | Answer::Finished(_, _))
 }
 
 // A step that ran or finished closes the loads before it.
 fn close(counts: &mut [u16], answer: Answer)
     ensures { counts.new ≡ closed_by answer counts.old }
 {
-    if !went_on(answer) {
-        return;
+    if went_on(answer) {
+        cells::put(counts, LOADS_CELL, 0);
     }
-    cells::put(counts, LOADS_CELL, 0);
 }
 
 // Groups are made anew where ties were posted.
-fn regroup(counts: &mut [u16], ties: &[u16], posting: Posting)
+fn regroup(counts: &mut [u16], ties: &[u16], posting: Option<Ties>)
     ensures { counts.new ≡ regrouped_by (to_post posting) ties.now counts.old }
 {
-    if posting::tie_number(posting) == 0 {
-        return;
+    if posting::tie_number(posting) != 0 {
+        groups::write_groups(counts, ties);
     }
-    groups::write_groups(counts, ties);
 }
 
 // A step of a store that is not broken: decided on shared tables, then ties are posted and the plan carried out.
@@ -67,19 +61,23 @@ pub(crate) fn step_unbroken(
     if n == 0 {
         return Answer::Idle;
     }
-    let top = top_frame(counts, classes, frames, task, n - 1);
+    let base = Base {
+        counts,
+        classes,
+        kept,
+        cache,
+    };
+    let top = top_frame(&base, frames, task, n - 1);
     let r = choose(
-        counts, classes, kept, cache, ties, subtypes, objects, frames, top, room,
+        &base, ties, subtypes, objects, frames, top, room,
     );
-    let posting = r.posting;
-    let plan = r.plan;
-    let before = post_ties(counts, ties, posting);
+    let before = post_ties(counts, ties, r.posting);
     let answer = carry_out(
-        counts, classes, kept, cache, objects, frames, top, r.next, plan,
+        counts, classes, kept, cache, objects, frames, top, r.next, r.plan,
     );
-    number_ties(counts, before, posting);
+    number_ties(counts, before, r.posting);
     close(counts, answer);
-    regroup(counts, ties, posting);
+    regroup(counts, ties, r.posting);
     answer
 }
 

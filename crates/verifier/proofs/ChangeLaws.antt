@@ -20,6 +20,7 @@ use Rattle.verifier.specs.declared.effects.Meeting.{Meeting}
 use Rattle.verifier.specs.declared.effects.Meeting.TheVariants.{Unmet, Met, Noted}
 use Rattle.verifier.specs.declared.effects.Effect.{Effect}
 use Rattle.verifier.specs.declared.effects.Effect.TheVariants.{Kept, Pushed, Stored}
+use Rattle.std.specs.Prelude as P
 use Rattle.verifier.specs.Types.{type_of, local_of, operand_at, local_at, locals_of, types_of}
 use Rattle.verifier.specs.Effects.{notes_in, going, left_by}
 use Rattle.verifier.specs.Trace.{meet_from, values_trace}
@@ -85,7 +86,7 @@ made-alone (Noted a b) o d = refl
 -- Effects carried out
 
 abbrev comes : Types → Effect → Option Flow
-comes types e = left_by (types_of types) (outcome_of types e)
+comes types e = left_by (types_of types) (outcome_of types (P.Some e))
 
 going-left : (s : TypeState) (m : Option Flow) → left_by s (going m) ≡ m
 unfolding left_by going

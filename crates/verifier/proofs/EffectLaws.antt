@@ -24,6 +24,7 @@ use Rattle.verifier.specs.declared.effects.Effect.TheVariants.{Pushed}
 use Rattle.verifier.specs.Types.{type_of, local_of, operand_at, locals_of, types_of, known_local}
 use Rattle.verifier.specs.Effects.{notes_in, going}
 use Rattle.verifier.specs.Trace.{meet_from, values_trace}
+use Rattle.std.specs.Prelude as P
 use Rattle.verifier.specs.Answers.{outcome_of}
 use Rattle.verifier.proofs.TypeLaws.{type-int, type-null, type-class, local-set}
 
@@ -154,17 +155,17 @@ alone (Noted l h) k = refl
 
 pub pushed-alone :
     (types : Types) (d t : ℕ) (a : Meeting) →
-    outcome_of types (Pushed d t a NoArguments) ≡ going (notes_in a >>= λ x. flow (type_of t ∷ stack (operand_at types.operands) d) (locals_of types.locals) x)
+    outcome_of types (P.Some (Pushed d t a NoArguments)) ≡ going (notes_in a >>= λ x. flow (type_of t ∷ stack (operand_at types.operands) d) (locals_of types.locals) x)
 unfolding outcome_of values_trace meet_from
 pushed-alone types d t a = ap going (alone a _)
 
 -- Constants
 
 module _ (types : Types) where
-  pub pushed-null : outcome_of types (Pushed types.depth 65537 Met NoArguments) ≡ going (effect AconstNull (types_of types))
+  pub pushed-null : outcome_of types (P.Some (Pushed types.depth 65537 Met NoArguments)) ≡ going (effect AconstNull (types_of types))
   unfolding outcome_of effect types_of notes_in values_trace meet_from ◌>>=◌
   pushed-null = rw (type-null 65537 refl)
 
-  pub pushed-int : (n : ℕ) → outcome_of types (Pushed types.depth 65536 Met NoArguments) ≡ going (effect (Sipush n) (types_of types))
+  pub pushed-int : (n : ℕ) → outcome_of types (P.Some (Pushed types.depth 65536 Met NoArguments)) ≡ going (effect (Sipush n) (types_of types))
   unfolding outcome_of effect types_of notes_in values_trace meet_from ◌>>=◌
   pushed-int n = rw (type-int 65536 refl)

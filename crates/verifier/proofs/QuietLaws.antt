@@ -81,7 +81,7 @@ module _ (ms : List ℕ) (n q r : ℕ) (e : map_there ms r ≡ map_at (maps_of m
   turns-on s = rw (flows-on s) refl
 
   -- by what its effect leaves
-  pub quiet-turn : (u : Turned) (s : Types) (x : Effect) (y : Option Quiet) → u ≡ turned_to n (maps_of ms) i q (left_by (types_of s) (outcome_of s x)) → QuietBy q s x y → QuietTo u s y
+  pub quiet-turn : (u : Turned) (s : Types) (x : Effect) (y : Option Quiet) → u ≡ turned_to n (maps_of ms) i q (left_by (types_of s) (outcome_of s (Some x))) → QuietBy q s x y → QuietTo u s y
   unfolding QuietBy QuietTo
   quiet-turn u s x None a c = tt
   quiet-turn u s x (Some (Keeps p d)) a c = a ∙ rw (c.1, c.0) (turns-on (types_of (keeping s d)))

@@ -18,7 +18,7 @@ use Rattle.definition.specs.Lists.{filled, stack, rows}
 use Rattle.definition.specs.Maybe.{◌>>=◌}
 use Rattle.definition.specs.Verifier.{VerifierType, type_int, type_null, type_class, type_of_name, pop}
 use Rattle.verifier.specs.declared.types.Popped.{Popped}
-use Rattle.verifier.specs.declared.types.Popped.TheVariants.{Top, Empty}
+use Rattle.std.specs.Prelude as P
 use Rattle.verifier.specs.Types.{type_of, local_of, operand_at, local_at, locals_of, types_of, argument_local, entry_of, popped, known_local}
 use Rattle.layout.specs.Places.{stack_top, rows-there, rows-past}
 
@@ -82,12 +82,12 @@ pop-whole xs t more e = whole xs ∙ ap again e
     whole [] = refl
     whole (x ∷ l) = refl
 
-module _ (o : List ℕ) (r : Popped) (m : Option (record { top : VerifierType; more : List VerifierType })) (e : popped o r ≡ m) where
-  pub popped-empty : r ≡ Empty → m ≡ none
+module _ (o : List ℕ) (r : P.Option Popped) (m : Option (record { top : VerifierType; more : List VerifierType })) (e : popped o r ≡ m) where
+  pub popped-empty : r ≡ P.None → m ≡ none
   unfolding popped
   popped-empty h = sym e ∙ ap (popped o) h
 
-  pub popped-top : {t d : ℕ} → r ≡ Top t d → m ≡ some (record { top = type_of t; more = stack (operand_at o) d })
+  pub popped-top : {p : Popped} → r ≡ P.Some p → m ≡ some (record { top = type_of p.top; more = stack (operand_at o) p.below })
   unfolding popped
   popped-top h = sym e ∙ ap (popped o) h
 

@@ -23,6 +23,7 @@ use Rattle.verifier.specs.declared.effects.Meeting.{Meeting}
 use Rattle.verifier.specs.declared.effects.Effect.TheVariants.{Pushed}
 use Rattle.verifier.specs.Types.{type_of, operand_at, locals_of, types_of}
 use Rattle.verifier.specs.Effects.{notes_in, meet_value, going}
+use Rattle.std.specs.Prelude as P
 use Rattle.verifier.specs.Answers.{outcome_of}
 use Rattle.verifier.specs.Trace.{Trace, meet_each, meet_from, values_trace, granted, accepted_notes, posting}
 use Rattle.verifier.proofs.MeetLaws.{each-says}
@@ -156,6 +157,6 @@ module _ (types : Types) (c : ℕ) (s : Signature) (low : 2 ≤ c) (names : is_n
     call-unmet f = call-is ∙ rw f (nothing (meet_class c (operands d)))
 
     pub call_met : b ≡ true → (x t : ℕ) (a : Meeting) → x ≡ get_or types.operands d 0 → notes_in a ≡ meet_class c (type_of x) → type_of t ≡ type_of_name s.result
-        → outcome_of types (Pushed d t a s.arguments) ≡ going (effect (Invokevirtual c s) (types_of types))
+        → outcome_of types (P.Some (Pushed d t a s.arguments)) ≡ going (effect (Invokevirtual c s) (types_of types))
     unfolding outcome_of operand_at granted ◌>>=◌
     call_met f x t a w m r = rw (m, r, w) (ap going (sym (call-is ∙ rw f)))

@@ -11,7 +11,7 @@ use Rattle.classfile.specs.Reading.{map_place, type_at}
 use Rattle.verifier.specs.declared.effects.Meeting.{Meeting}
 use Rattle.verifier.specs.declared.effects.Meeting.TheVariants.{Unmet, Met, Noted}
 use Rattle.verifier.specs.declared.effects.Effect.{Effect}
-use Rattle.verifier.specs.declared.effects.Effect.TheVariants.{Rejected, Kept, Pushed, Stored, Ended}
+use Rattle.verifier.specs.declared.effects.Effect.TheVariants.{Kept, Pushed, Stored, Ended}
 use Rattle.verifier.specs.declared.types.Types.{Types}
 use Rattle.verifier.specs.declared.changes.Change.{Change}
 use Rattle.verifier.specs.declared.flows.Part.{Part}
@@ -19,7 +19,7 @@ use Rattle.verifier.specs.declared.flows.Part.TheVariants.{Locals, Operands}
 use Rattle.verifier.specs.declared.quiet.Quiet.{Quiet}
 use Rattle.verifier.specs.declared.quiet.Quiet.TheVariants.{Keeps, Pushes, Sets}
 use Rattle.verifier.specs.declared.turns.Turn.{Turn}
-use Rattle.verifier.specs.declared.notes.Rejected.{Rejected as Rejection}
+use Rattle.verifier.specs.declared.notes.Rejected.{Rejected}
 use Rattle.rows.specs.Posting.{noted}
 use Rattle.verifier.specs.declared.methods.Ahead.{Ahead}
 use Rattle.verifier.specs.Types.{type_of, local_of, local_at, operand_at, locals_of, types_of}
@@ -36,12 +36,12 @@ kept s d ns = flow (stack (operand_at s.operands) d) (locals_of s.locals) ns
 abbrev pushed : Types → ℕ → ℕ → List Note → Option Flow
 pushed s d t ns = flow (type_of t ∷ stack (operand_at s.operands) d) (locals_of s.locals) ns
 
-unfoldable pub outcome_of : Types → Effect → Outcome
-outcome_of s Rejected = rejected
-outcome_of s (Kept d a vs) = going (notes_in a >>= λ x. kept s d (x ++ (values_trace s.operands d vs).notes))
-outcome_of s (Pushed d t a vs) = going (notes_in a >>= λ x. pushed s d t (x ++ (values_trace s.operands d vs).notes))
-outcome_of s (Stored d i t) = going (flow (stack (operand_at s.operands) d) (set (locals_of s.locals) i (local_of t)) [])
-outcome_of s (Ended a) = ending (notes_in a)
+unfoldable pub outcome_of : Types → P.Option Effect → Outcome
+outcome_of s P.None = rejected
+outcome_of s (P.Some (Kept d a vs)) = going (notes_in a >>= λ x. kept s d (x ++ (values_trace s.operands d vs).notes))
+outcome_of s (P.Some (Pushed d t a vs)) = going (notes_in a >>= λ x. pushed s d t (x ++ (values_trace s.operands d vs).notes))
+outcome_of s (P.Some (Stored d i t)) = going (flow (stack (operand_at s.operands) d) (set (locals_of s.locals) i (local_of t)) [])
+outcome_of s (P.Some (Ended a)) = ending (notes_in a)
 
 unfoldable pub made : Meeting → List Note
 made Unmet = []
@@ -63,7 +63,7 @@ next_of P.None s = accepted
 next_of (P.Some q) s = onto q s
 
 -- what a turn answers and leaves of the table of subtype constraints
-abbrev pub stepped : P.Result Turn Rejection → List ℕ → Turning
+abbrev pub stepped : P.Result Turn Rejected → List ℕ → Turning
 stepped (P.Ok t) xs = turning (next_of t.next (types_of t.types)) (noted xs t.count)
 stepped (P.Err r) xs = turning refused (noted xs r.count)
 
@@ -81,9 +81,9 @@ setting s d i t = record { operands = s.operands; locals = set s.locals i t; dep
 -- an effect leaves them, and the walk goes to point q
 unfoldable pub QuietBy : ℕ → Types → Effect → P.Option Quiet → Type 0
 QuietBy q s e P.None = Unit {0}
-QuietBy q s e (P.Some (Keeps p d)) = (p ≡ q) × (left_by (types_of s) (outcome_of s e) ≡ some (record { types = types_of (keeping s d); notes = [] }))
-QuietBy q s e (P.Some (Pushes p d t)) = (p ≡ q) × (d < 16) × (left_by (types_of s) (outcome_of s e) ≡ some (record { types = types_of (pushing s d t); notes = [] }))
-QuietBy q s e (P.Some (Sets p d i t)) = (p ≡ q) × (i < 8) × (left_by (types_of s) (outcome_of s e) ≡ some (record { types = types_of (setting s d i t); notes = [] }))
+QuietBy q s e (P.Some (Keeps p d)) = (p ≡ q) × (left_by (types_of s) (outcome_of s (P.Some e)) ≡ some (record { types = types_of (keeping s d); notes = [] }))
+QuietBy q s e (P.Some (Pushes p d t)) = (p ≡ q) × (d < 16) × (left_by (types_of s) (outcome_of s (P.Some e)) ≡ some (record { types = types_of (pushing s d t); notes = [] }))
+QuietBy q s e (P.Some (Sets p d i t)) = (p ≡ q) × (i < 8) × (left_by (types_of s) (outcome_of s (P.Some e)) ≡ some (record { types = types_of (setting s d i t); notes = [] }))
 
 -- a turn goes on with them
 unfoldable pub QuietTo : Turned → Types → P.Option Quiet → Type 0

@@ -1,4 +1,5 @@
 -- The verifier's types as numbers. A class name is itself, int is 65536, null 65537, and 65538 in a local is unset.
+use Rattle.std.specs.Prelude as P
 use Rattle.std.proofs.Math.Option.{Option, none, some}
 use Rattle.std.specs.Prelude.{List, [], ◌∷◌, map, ℕ, ◌%◌, get_or, eqb}
 use Rattle.std.proofs.Math.ListN.{get_elem?}
@@ -12,7 +13,6 @@ use Rattle.definition.specs.Maybe.{◌>>=◌}
 use Rattle.definition.specs.Verifier.{VerifierType, type_int, type_null, type_class, TypeState, type_of_name}
 use Rattle.verifier.specs.declared.types.Types.{Types}
 use Rattle.verifier.specs.declared.types.Popped.{Popped}
-use Rattle.verifier.specs.declared.types.Popped.TheVariants.{Top, Empty}
 
 -- any number has a type, so that every state has a meaning: past null a class name is the low 16 bits
 unfoldable pub type_of : ℕ → VerifierType
@@ -43,9 +43,9 @@ unfoldable pub argument_local : Arguments → ℕ → Option VerifierType
 argument_local a i = get_or (map (λ n. some (type_of_name n)) (argument_list a)) i none
 
 -- the last operand, and those below it
-unfoldable pub popped : List ℕ → Popped → Option (record { top : VerifierType; more : List VerifierType })
-popped o Empty = none
-popped o (Top t d) = some (record { top = type_of t; more = stack (operand_at o) d })
+unfoldable pub popped : List ℕ → P.Option Popped → Option (record { top : VerifierType; more : List VerifierType })
+popped o P.None = none
+popped o (P.Some p) = some (record { top = type_of p.top; more = stack (operand_at o) p.below })
 
 -- the type of a local that is there and set
 unfoldable pub known_local : List (Option VerifierType) → ℕ → Option VerifierType

@@ -1,5 +1,5 @@
 // What each instruction does to the types.
-ghost use Rattle.std.specs.Prelude.{◌&&◌, ◌≡◌, ℕ, ◌+◌, leb, get_or};
+ghost use Rattle.std.specs.Prelude.{◌&&◌, ◌≡◌, ℕ, ◌+◌, leb, get_or, Some};
 ghost use Rattle.std.proofs.Math.Option.{some};
 ghost use Rattle.definition.specs.Numbers.{name_object};
 ghost use Rattle.definition.specs.Lists.{is_some};
@@ -10,9 +10,7 @@ ghost use Rattle.verifier.specs.Effects.{notes_in, meet_value, going, ending, ou
 ghost use Rattle.verifier.specs.Trace.{values_trace};
 ghost use Rattle.verifier.specs.Answers.{outcome_of};
 
-use crate::types::{
-    INT, LOCALS, NULL, OPERANDS, Popped, Types, UNSET, local, operand, pop, type_of_name,
-};
+use crate::types::{INT, LOCALS, NULL, OPERANDS, Types, UNSET, local, operand, pop, type_of_name};
 use cells::arguments::{argument_at, argument_count};
 use definition::numbers::{NAME_OBJECT, SHORT_RANGE};
 use definition::{Arguments, Condition, Instruction, Kind, Operator, Signature};
@@ -25,11 +23,10 @@ pub enum Meeting {
     Noted(u16, u16),
 }
 
-// What an instruction does: it is rejected, or keeps the lowest operands, then pushes a type or sets a local, or it ends the method.
+// What an instruction does that isn't rejected: it keeps the lowest operands, then pushes a type or sets a local, or it ends the method.
 // The meeting is the receiver's, which is the lowest operand that isn't kept. The names are demanded of the values above it, in their order, and met.
 #[derive(Clone, Copy)]
 pub enum Effect {
-    Rejected,
     Kept(usize, Meeting, Arguments),
     Pushed(usize, u32, Meeting, Arguments),
     Stored(usize, usize, u32),
@@ -40,11 +37,7 @@ pub enum Effect {
 pub(crate) fn met(m: Meeting) -> bool
     ensures { result ≡ is_some (notes_in m) }
 {
-    match m {
-        Meeting::Unmet => false,
-        Meeting::Met => true,
-        Meeting::Noted(_, _) => true,
-    }
+    !matches!(m, Meeting::Unmet)
 }
 
 // A type where class b is demanded.
@@ -149,198 +142,179 @@ fn named(c: u16, n: u16, t: u16) -> bool
     1 <= t
 }
 
-fn push(types: Types, t: u32) -> Effect
-    ensures { result ≡ Effect.Pushed types.depth t Meeting.Met Arguments.NoArguments }
+fn push(types: Types, t: u32) -> Option<Effect>
+    ensures { result ≡ Some (Effect.Pushed types.depth t Meeting.Met Arguments.NoArguments) }
 {
-    Effect::Pushed(types.depth, t, Meeting::Met, Arguments::NoArguments)
+    Some(Effect::Pushed(types.depth, t, Meeting::Met, Arguments::NoArguments))
 }
 
-fn load(types: Types, kind: Kind, i: u8) -> Effect
+fn load(types: Types, kind: Kind, i: u8) -> Option<Effect>
     ensures { outcome_of types result ≡ going (effect (Instruction.Load kind i) (types_of types)) }
 {
     let t = local(types, i);
     if t == UNSET {
-        return Effect::Rejected;
+        return None;
     }
     if !of_kind(kind, t) {
-        return Effect::Rejected;
+        return None;
     }
     push(types, t)
 }
 
-fn store(types: Types, kind: Kind, i: u8) -> Effect
+fn store(types: Types, kind: Kind, i: u8) -> Option<Effect>
     ensures { outcome_of types result ≡ going (effect (Instruction.Store kind i) (types_of types)) }
 {
-    let Popped::Top(t, d) = pop(types, types.depth) else {
-        return Effect::Rejected;
-    };
-    if !of_kind(kind, t) {
-        return Effect::Rejected;
+    let last = pop(types, types.depth)?;
+    if !of_kind(kind, last.top) {
+        return None;
     }
     let place = usize::from(i);
     if LOCALS <= place {
-        return Effect::Rejected;
+        return None;
     }
-    Effect::Stored(d, place, stored(t))
+    Some(Effect::Stored(last.below, place, stored(last.top)))
 }
 
-fn drop(types: Types) -> Effect
+fn drop(types: Types) -> Option<Effect>
     ensures { outcome_of types result ≡ going (effect Instruction.Pop (types_of types)) }
 {
-    let Popped::Top(_, d) = pop(types, types.depth) else {
-        return Effect::Rejected;
-    };
-    Effect::Kept(d, Meeting::Met, Arguments::NoArguments)
+    let last = pop(types, types.depth)?;
+    Some(Effect::Kept(last.below, Meeting::Met, Arguments::NoArguments))
 }
 
-fn dup(types: Types) -> Effect
+fn dup(types: Types) -> Option<Effect>
     ensures { outcome_of types result ≡ going (effect Instruction.Dup (types_of types)) }
 {
-    let Popped::Top(t, _) = pop(types, types.depth) else {
-        return Effect::Rejected;
-    };
-    push(types, t)
+    let last = pop(types, types.depth)?;
+    push(types, last.top)
 }
 
 // Two ints go and one comes, whatever the operator.
-fn arithmetic(types: Types) -> Effect
+fn arithmetic(types: Types) -> Option<Effect>
     ensures { (o : Operator) → outcome_of types result ≡ going (effect (Instruction.Arithmetic o) (types_of types)) }
 {
-    let Popped::Top(x, d) = pop(types, types.depth) else {
-        return Effect::Rejected;
-    };
-    let Popped::Top(y, e) = pop(types, d) else {
-        return Effect::Rejected;
-    };
-    if x != INT {
-        return Effect::Rejected;
+    let second = pop(types, types.depth)?;
+    let first = pop(types, second.below)?;
+    if second.top != INT {
+        return None;
     }
-    if y != INT {
-        return Effect::Rejected;
+    if first.top != INT {
+        return None;
     }
-    Effect::Pushed(e, INT, Meeting::Met, Arguments::NoArguments)
+    Some(Effect::Pushed(first.below, INT, Meeting::Met, Arguments::NoArguments))
 }
 
-fn getfield(types: Types, c: u16, f: u16, t: u16) -> Effect
+fn getfield(types: Types, c: u16, f: u16, t: u16) -> Option<Effect>
     ensures { outcome_of types result ≡ going (effect (Instruction.Getfield c f t) (types_of types)) }
 {
     if !named(c, f, t) {
-        return Effect::Rejected;
+        return None;
     }
-    let Popped::Top(x, d) = pop(types, types.depth) else {
-        return Effect::Rejected;
-    };
-    Effect::Pushed(d, type_of_name(t), meet_class(c, x), Arguments::NoArguments)
+    let receiver = pop(types, types.depth)?;
+    Some(Effect::Pushed(
+        receiver.below,
+        type_of_name(t),
+        meet_class(c, receiver.top),
+        Arguments::NoArguments,
+    ))
 }
 
-fn putfield(types: Types, c: u16, f: u16, t: u16) -> Effect
+fn putfield(types: Types, c: u16, f: u16, t: u16) -> Option<Effect>
     ensures { outcome_of types result ≡ going (effect (Instruction.Putfield c f t) (types_of types)) }
 {
     if !named(c, f, t) {
-        return Effect::Rejected;
+        return None;
     }
-    let Popped::Top(_, d) = pop(types, types.depth) else {
-        return Effect::Rejected;
-    };
-    let Popped::Top(y, e) = pop(types, d) else {
-        return Effect::Rejected;
-    };
+    let value = pop(types, types.depth)?;
+    let receiver = pop(types, value.below)?;
     let names = Arguments::OneArgument(t);
-    if !are_met(types, e, names) {
-        return Effect::Rejected;
+    if !are_met(types, receiver.below, names) {
+        return None;
     }
-    Effect::Kept(e, meet_class(c, y), names)
+    Some(Effect::Kept(receiver.below, meet_class(c, receiver.top), names))
 }
 
 // The arguments stand above the receiver, the last on top.
-fn invokevirtual(types: Types, c: u16, s: Signature) -> Effect
+fn invokevirtual(types: Types, c: u16, s: Signature) -> Option<Effect>
     ensures { outcome_of types result ≡ going (effect (Instruction.Invokevirtual c s) (types_of types)) }
 {
     if c < NAME_OBJECT {
-        return Effect::Rejected;
+        return None;
     }
     if !classfile::is_named(s) {
-        return Effect::Rejected;
+        return None;
     }
     let arguments = s.arguments;
     let n = usize::from(argument_count(arguments));
     if types.depth <= n {
-        return Effect::Rejected;
+        return None;
     }
     let d = types.depth - n - 1;
     if !are_met(types, d, arguments) {
-        return Effect::Rejected;
+        return None;
     }
     let receiver = meet_class(c, operand(types, d));
-    Effect::Pushed(d, type_of_name(s.result), receiver, arguments)
+    Some(Effect::Pushed(d, type_of_name(s.result), receiver, arguments))
 }
 
-fn new(types: Types, c: u16) -> Effect
+fn new(types: Types, c: u16) -> Option<Effect>
     ensures { outcome_of types result ≡ going (effect (Instruction.New c) (types_of types)) }
 {
     if c < NAME_OBJECT {
-        return Effect::Rejected;
+        return None;
     }
     push(types, u32::from(c))
 }
 
 // An int goes, and it is compared with 0.
-fn compared_with_zero(types: Types) -> Effect
+fn compared_with_zero(types: Types) -> Option<Effect>
     ensures { (p : ℕ) → outcome_of types result ≡ going (effect (Instruction.Branch Condition.IfZero p) (types_of types)) }
 {
-    let Popped::Top(x, d) = pop(types, types.depth) else {
-        return Effect::Rejected;
-    };
-    if x != INT {
-        return Effect::Rejected;
+    let last = pop(types, types.depth)?;
+    if last.top != INT {
+        return None;
     }
-    Effect::Kept(d, Meeting::Met, Arguments::NoArguments)
+    Some(Effect::Kept(last.below, Meeting::Met, Arguments::NoArguments))
 }
 
 // Two ints go, and they are compared.
-fn compared(types: Types) -> Effect
+fn compared(types: Types) -> Option<Effect>
     ensures { (p : ℕ) → outcome_of types result ≡ going (effect (Instruction.Branch Condition.IfLess p) (types_of types)) }
 {
-    let Popped::Top(x, d) = pop(types, types.depth) else {
-        return Effect::Rejected;
-    };
-    let Popped::Top(y, e) = pop(types, d) else {
-        return Effect::Rejected;
-    };
-    if x != INT {
-        return Effect::Rejected;
+    let second = pop(types, types.depth)?;
+    let first = pop(types, second.below)?;
+    if second.top != INT {
+        return None;
     }
-    if y != INT {
-        return Effect::Rejected;
+    if first.top != INT {
+        return None;
     }
-    Effect::Kept(e, Meeting::Met, Arguments::NoArguments)
+    Some(Effect::Kept(first.below, Meeting::Met, Arguments::NoArguments))
 }
 
-fn branch(types: Types, condition: Condition) -> Effect
+fn branch(types: Types, condition: Condition) -> Option<Effect>
     ensures { (p : ℕ) → outcome_of types result ≡ going (effect (Instruction.Branch condition p) (types_of types)) }
 {
     match condition {
-        Condition::Always => Effect::Kept(types.depth, Meeting::Met, Arguments::NoArguments),
+        Condition::Always => Some(Effect::Kept(types.depth, Meeting::Met, Arguments::NoArguments)),
         Condition::IfZero => compared_with_zero(types),
         Condition::IfLess => compared(types),
     }
 }
 
 // A value of the kind given back, where the result type is of the kind too.
-fn give_back(types: Types, kind: Kind, res: u16) -> Effect
+fn give_back(types: Types, kind: Kind, res: u16) -> Option<Effect>
     ensures { outcome_of types result ≡ ending (returns kind res (types_of types)) }
 {
     if !of_kind(kind, type_of_name(res)) {
-        return Effect::Rejected;
+        return None;
     }
-    let Popped::Top(t, _) = pop(types, types.depth) else {
-        return Effect::Rejected;
-    };
-    Effect::Ended(meet_name(t, res))
+    let last = pop(types, types.depth)?;
+    Some(Effect::Ended(meet_name(last.top, res)))
 }
 
 // What an instruction does in a method with that result type.
-pub(crate) fn effect_of(types: Types, i: Instruction, res: u16) -> Effect
+pub(crate) fn effect_of(types: Types, i: Instruction, res: u16) -> Option<Effect>
     ensures { outcome_of types result ≡ outcome i res (types_of types) }
 {
     match i {

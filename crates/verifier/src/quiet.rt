@@ -84,7 +84,6 @@ fn quiet_of(e: Effect, q: usize) -> Option<Quiet>
     ensures { (s : Types) → length s.operands ≡ 16 → length s.locals ≡ 8 → QuietBy q s e result }
 {
     match e {
-        Effect::Rejected => None,
         Effect::Kept(d, receiver, names) => keeps(q, d, receiver, names),
         Effect::Pushed(d, t, receiver, names) => pushes(q, d, t, receiver, names),
         Effect::Stored(d, i, t) => sets(q, d, i, t),
@@ -122,7 +121,8 @@ fn quiet_at(
     if find_map(maps, places, q) != 0 {
         return None;
     }
-    quiet_of(effect_of(types, i, res), q)
+    let effect = effect_of(types, i, res)?;
+    quiet_of(effect, q)
 }
 
 // The quiet turns from point `from` on, with n turns left. The last turn is left to the walk.

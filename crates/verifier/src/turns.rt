@@ -8,9 +8,8 @@ ghost use Rattle.verifier.specs.Types.{types_of};
 ghost use Rattle.verifier.specs.Trace.{flowed, posting, taking, target_trace, into_turn, start_turn, flowing, turned_to, turned};
 ghost use Rattle.verifier.specs.Answers.{change_of, stepped};
 
-use crate::changes::{Change, carried_out};
+use crate::changes::{Change, change_at};
 use crate::decoding::decode;
-use crate::effects::effect_of;
 use crate::flows::{is_fitting, mapped_types, meet_map, post_values};
 use crate::lookups::{find_map, goes_on, target_of};
 use crate::notes::{Posted, Rejected, post_meeting};
@@ -191,7 +190,7 @@ pub(crate) fn turn_at(
         return Err(Rejected { count });
     };
     let i = read.instruction;
-    let Some(change) = carried_out(types, effect_of(types, i, res)) else {
+    let Some(change) = change_at(types, i, res) else {
         return Err(Rejected { count });
     };
     let end = p + read.size;

@@ -32,9 +32,9 @@ pub struct Types {
 
 // The last operand's type, and how many are left below it.
 #[derive(Clone, Copy)]
-pub enum Popped {
-    Top(u32, usize),
-    Empty,
+pub struct Popped {
+    pub top: u32,
+    pub below: usize,
 }
 
 // The type that a name stands for.
@@ -79,14 +79,17 @@ pub(crate) fn operand(types: Types, i: usize) -> u32
     if i < OPERANDS { types.operands[i] } else { 0 }
 }
 
-// The last of d operands.
-pub(crate) fn pop(types: Types, d: usize) -> Popped
+// The last of d operands, if there are any.
+pub(crate) fn pop(types: Types, d: usize) -> Option<Popped>
     ensures { popped types.operands result ≡ pop (stack (operand_at types.operands) d) }
 {
     if d == 0 {
-        return Popped::Empty;
+        return None;
     }
-    Popped::Top(operand(types, d - 1), d - 1)
+    Some(Popped {
+        top: operand(types, d - 1),
+        below: d - 1,
+    })
 }
 
 // The type of a local; unset where there is no such local.

@@ -18,9 +18,6 @@ returns-then-tied-noted-eq0 c =
     names-counted _ args.cache.now args.ties.now args.beside.now args.subtypes.now cached.result tied.result noted.result _ _ _ _ _ _ cached.ensures.0 tied.ensures.0
     noted.ensures.0 refl (names-alone (super_in args.supers.now) args.cache.now args.ties.now args.beside.now args.subtypes.now cached.result tied.result noted.result _ c.if-tied-noted-eq0.true)
 
-pub list_classes-requires : goal.list_classes-requires
-list_classes-requires c = (omega arith, c.at_most-cached.ensures.1, λ p h. omega (arith, (c.number_nodes.ensures p (omega arith)).low))
-
 pub group_places-requires : goal.group_places-requires
 group_places-requires c =
     let nodes = c.number_nodes in

@@ -1,14 +1,11 @@
 -- The links are joined, if there are any.
 use Prim.Native.Nat.{◌+◌}
-use mathlib.Core.Logic.{inl, inr}
+use mathlib.Core.Logic.{inr}
 use native.Mathlib.Omega.{arith}
 use Rattle.constraints.specs.Search.{start_of}
 use Rattle.constraints.proofs.Filling.{joined-first}
-use Rattle.constraints.proofs.Looks.{tables-none, tables-zeros}
+use Rattle.constraints.proofs.Looks.{tables-zeros}
 use Rattle.constraints.proofs.agreement.find_break.Goals as goal
-
-pub find_pair-requires : goal.find_pair-requires
-find_pair-requires c = let pre = c.requires in (pre.0, pre.1, pre.2, inl c.if-noted-eq0.true, tables-none _ c.if-noted-eq0.true)
 
 pub join-requires : goal.join-requires
 unfolding start_of

@@ -2,23 +2,14 @@ use mathlib.Core.Path.{sym, ◌∙◌}
 use native.Mathlib.Omega.{arith}
 use native.Mathlib.Numerals.{add-one}
 use Rattle.constraints.proofs.Supers.{super-falls}
-use Rattle.constraints.proofs.Pairing.{tested-start, tested-next, tested-all, turn-fits, apart-in, fine-in}
+use Rattle.constraints.proofs.Pairing.{tested-next, tested-all, turn-fits, apart-in, fine-in}
 use Rattle.constraints.proofs.agreement.find_pair.Goals as goal
-
-pub loop-turn-init : goal.loop-turn-init
-loop-turn-init c = let pre = c.requires in tested-start _ (super-falls c.args.supers.now) _ _ _ _ pre.2 (omega arith) pre.3 _ c.first_turn-turn.ensures pre.4
 
 pub look-span-requires : goal.look-span-requires
 look-span-requires c =
     let pre = c.requires in
     let done = c.loop-turn.invariant in
     (pre.0, pre.1, c.loop-turn-test.true, turn-fits c.args.newcomer done.is_new c.loop-turn-test.true c.request_at-a.ensures, pre.2, pre.3, done.tables)
-
-pub pair_in-pair-requires : goal.pair_in-pair-requires
-pair_in-pair-requires c =
-    let look = c.look-span.ensures in
-    let few = c.requires.0 in
-    (omega arith, omega (arith, look.begin, few), omega (arith, look.low, few), look.seen)
 
 pub returns-then-is_some : goal.returns-then-is_some
 returns-then-is_some c =

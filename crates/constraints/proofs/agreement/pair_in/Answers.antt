@@ -1,22 +1,10 @@
 use Rattle.std.proofs.Common.{arith, ◌∙◌, sym}
 use Rattle.constraints.specs.Looking.{all_fine}
-use Rattle.constraints.proofs.Pairing.{judged-fine, right-on, pair-breaks, reach-falls}
+use Rattle.constraints.proofs.Pairing.{judged-fine, right-on, pair-breaks}
 use Rattle.constraints.proofs.agreement.pair_in.Goals as goal
-
-pub loop-next-init : goal.loop-next-init
-loop-next-init c = let next = c.next_met-next.ensures in record { fits = next.fits; fine = λ p h l k. absurd (next.none p h l k) }
 
 pub returns-then-is_some : goal.returns-then-is_some
 returns-then-is_some c = pair-breaks (c.loop-next.invariant.fits _ c.in-Some.is).1 (rw c.beside-lead.ensures at c.pair_at-pair.ensures) (sym c.is_some.ensures ∙ c.if-is_some.true)
-
-pub overflow_add-b : goal.overflow_add-b
-overflow_add-b c = omega (arith, c.loop-next.invariant.fits _ c.in-Some.is)
-
-pub next_met-next-requires-in-Some : goal.next_met-next-requires-in-Some
-next_met-next-requires-in-Some c = let pre = c.requires in (omega (arith, c.loop-next.invariant.fits _ c.in-Some.is), pre.2, pre.3)
-
-pub loop-next-smaller : goal.loop-next-smaller
-loop-next-smaller c = reach-falls c.in-Some.is (c.loop-next.invariant.fits _ c.in-Some.is).1 c.next_met-next-in-Some.ensures
 
 pub loop-next-preserved : goal.loop-next-preserved
 loop-next-preserved c =

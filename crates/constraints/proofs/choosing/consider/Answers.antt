@@ -1,6 +1,5 @@
 -- The chain was not found, is longer, is as long and doesn't go before, or is written.
-use Prim.Native.Nat.{suc, ◌-◌, ◌≤◌}
-use mathlib.Core.Logic.{inl}
+use Prim.Native.Nat.{suc, ◌-◌}
 use mathlib.Core.Path.{◌≡◌, sym, ◌∙◌}
 use native.Mathlib.Omega.{arith}
 use lib.ListN.{get_or}
@@ -23,22 +22,21 @@ returns-then-not-goes_before c =
     let dist : get_or c.args.dists.now c.args.node 0 ≡ suc k = omega (arith, c.at-dist.ensures, c.if-dist-eq0.false) in
     (rw c.in-Some.is at c.requires.0, rw c.in-Some.is (stays_after _ _ _ _ _ _ k _ dist c.if-held-k-2.true (rw c.from.ensures at (sym c.goes_before.ensures ∙ c.if-not-goes_before.true))))
 
-pub write_trail-requires : goal.write_trail-requires
-write_trail-requires c = (omega (arith, c.requires.1), c.requires.0.long)
-
 pub returns : goal.returns
 returns c =
     let args = c.args in
     let k = c.at-dist.result - 1 in
-    let dist : get_or args.dists.now args.node 0 ≡ suc k = omega (arith, c.at-dist.ensures, c.if-dist-eq0.false) in
-    (
+    let dist : get_or args.dists.now args.node 0 ≡ suc k = omega (arith, c.at-dist.ensures, c.if-dist-eq0.false) in (
       record { long = c.write_trail.auto.best ∙ c.requires.0.long; fits = omega (arith, c.requires.1) },
       comes-in _ _ _ _ args.best.now _ k dist _ _
           (elim c.match-size.branch [
-            | in-Some+else-held-k+else-held-k-2 w ↦ rw w.in-Some.is (w.if-held-k.false, λ e. elim w.else-held-k-2.branch [
-              | else-held-k-2-via-then-held-k-2+else-not-goes_before v ↦ rw v.from.ensures at (sym v.goes_before.ensures ∙ v.if-not-goes_before.false)
-              | else-held-k-2-via-else-held-k-2 v ↦ absurd (v.if-held-k-2.false e)
-            ])
+            | in-Some+else-held-k+else-held-k-2 w ↦ rw w.in-Some.is (
+              w.if-held-k.false,
+              λ e. elim w.else-held-k-2.branch [
+                | else-held-k-2-via-then-held-k-2+else-not-goes_before v ↦ rw v.from.ensures at (sym v.goes_before.ensures ∙ v.if-not-goes_before.false)
+                | else-held-k-2-via-else-held-k-2 v ↦ absurd (v.if-held-k-2.false e)
+              ],
+            )
             | in_default w ↦ rw w.in_default.is tt
           ])
           (rw c.from-2.ensures at c.write_trail.ensures),

@@ -1,13 +1,7 @@
 use mathlib.Core.Path.{sym, ◌∙◌}
-use Rattle.constraints.proofs.Choices.{left-start, left_here, left-past, left-none}
+use Rattle.constraints.proofs.Choices.{left_here, left-past, left-none}
 use Rattle.constraints.proofs.choosing.consider_all.Goals as goal
 use Rattle.constraints.proofs.choosing.consider_all.Goals.{then-at-c, else-at-c}
-
-pub loop-q-init : goal.loop-q-init
-loop-q-init c = (c.requires.0, left-start _ _ _ _ _ _ _ _)
-
-pub consider-kept-requires : goal.consider-kept-requires
-consider-kept-requires c = (c.loop-q.invariant.0, c.requires.1 c.loop-q.q)
 
 pub loop-q-preserved : goal.loop-q-preserved
 loop-q-preserved c =

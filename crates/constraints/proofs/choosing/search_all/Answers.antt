@@ -2,7 +2,7 @@ use mathlib.Core.Path.{◌≡◌, sym, ◌∙◌}
 use native.Mathlib.Omega.{arith}
 use lib.ListN.{get_or, set}
 use borrow.Author.Tests.{eqb-true}
-use Rattle.constraints.proofs.Choices.{starts-low, met-none, met-more, swept_none, swept-met, swept-one, swept_all}
+use Rattle.constraints.proofs.Choices.{starts-low, met-none, met-more, swept_none, swept-met, swept-one}
 use Rattle.constraints.proofs.Filling.{joined-none}
 use Rattle.constraints.proofs.Marking.{stamped-none, stamped-more}
 use Rattle.constraints.proofs.Supers.{super-falls}
@@ -15,14 +15,6 @@ join-requires c = (omega arith, c.requires.1.few, starts-low c.requires.1, joine
 pub loop-p-init : goal.loop-p-init
 loop-p-init c =
     (c.requires.2, stamped-none 256 0, met-none c.args.classes.now, swept_none _ _ _ _ _ _ _ _ _)
-
-pub mark_above-requires : goal.mark_above-requires
-mark_above-requires c = (omega arith, stamped-more (omega arith) c.loop-p.invariant.1)
-
-pub search_class-kept-requires : goal.search_class-kept-requires
-search_class-kept-requires c =
-    let pre = c.requires in
-    (omega (arith, pre.0), record { in_range = pre.1; joined = c.join.ensures }, c.loop-p.invariant.0, pre.3)
 
 pub loop-p-preserved : goal.loop-p-preserved
 loop-p-preserved c =
@@ -47,6 +39,3 @@ loop-p-preserved c =
         swept-met _ _ _ _ _ _ _ _ loop.met loop.invariant.2 (rw class at (eqb-true (get_or loop.met from.result 0) 1 (sym was-met.ensures.0 ∙ w.if-not-was_met.false))) loop.invariant.3,
       )
     ])
-
-pub returns : goal.returns
-returns c = (c.loop-p.invariant.0, swept_all _ _ _ _ _ _ _ _ c.loop-p-test.false c.loop-p.invariant.3)

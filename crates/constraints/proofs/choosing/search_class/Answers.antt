@@ -8,9 +8,6 @@ use Rattle.constraints.proofs.choosing.search_class.Goals as goal
 pub seed-seeds-requires : goal.seed-seeds-requires
 seed-seeds-requires c = (c.requires.0, zeroed, length-replicate {A = ℕ} 1280 0)
 
-pub spread-requires : goal.spread-requires
-spread-requires c = (c.requires.1, (c.seed-seeds.ensures (replicate 1280 0) (length-replicate {A = ℕ} 1280 0)).sized)
-
 pub consider_all-requires : goal.consider_all-requires
 consider_all-requires c =
     let args = c.args in

@@ -2,11 +2,7 @@
 use mathlib.Core.Path.{◌∙◌}
 use native.Mathlib.Omega.{arith}
 use lib.ListN.{get_or}
-use borrow.Author.Rules.{rules}
 use Rattle.constraints.proofs.grouping.group_places.Goals as goal
-
-pub label_places-requires : goal.label_places-requires
-label_places-requires c = let pre = c.requires in (omega arith, search rules, search rules, λ p h. pre.5 p (omega arith), pre.6)
 
 pub returns : goal.returns
 returns c =

@@ -1,16 +1,9 @@
 use Rattle.std.proofs.Common.{◌≡◌, ◌+◌, ◌-◌, ◌<◌, length, get_or, arith}
-use lib.ListN.{length-set}
 use Rattle.constraints.proofs.Labelling.{label-none, label-before}
 use Rattle.constraints.proofs.grouping.label_nodes.Goals as goal
 
 pub loop-i-init : goal.loop-i-init
 loop-i-init c = let args = c.args in label-none args.nodes.now args.labels.now args.beside.now args.ones args.tied args.ones c.requires.4
-
-pub bounds-labels-one : goal.bounds-labels-one
-bounds-labels-one c = omega (arith, c.requires.3 (c.args.ones + (c.loop-i.i - 1)) (omega arith))
-
-pub bounds-labels-two : goal.bounds-labels-two
-bounds-labels-two c = omega (arith, c.requires.3 (c.args.ones + c.args.tied + (c.loop-i.i - 1)) (omega arith), length-set {A = _} c.loop-i.labels c.from-one.result (1280 + c.from-label.result))
 
 pub loop-i-preserved : goal.loop-i-preserved
 loop-i-preserved c =
@@ -21,9 +14,3 @@ loop-i-preserved c =
     let two : c.from-two.result < length loop.labels = omega (arith, c.requires.3 (args.ones + args.tied + (loop.i - 1)) (omega arith)) in
     label-before args.nodes.now loop.labels args.beside.now args.ones args.tied loop.i args.ones c.from-one.result c.from-two.result (1280 + c.from-label.result) c.loop-i-test.true (omega arith) is
     c.from-one.ensures c.from-two.ensures one two loop.invariant
-
-pub returns : goal.returns
-returns c =
-    let e : c.loop-i.i ≡ 0 = omega arith in
-    let z : c.args.tied - 0 ≡ c.args.tied = omega arith in
-    rw (e, z) at c.loop-i.invariant

@@ -1,12 +1,8 @@
 use Prim.Native.Nat.{◌<◌}
-use mathlib.Core.Path.{◌≡◌}
 use native.Mathlib.Omega.{arith}
 use Rattle.constraints.specs.Search.{start_of}
 use Rattle.constraints.proofs.Filling.{joined-more}
 use Rattle.constraints.proofs.joining.join.Goals as goal
-
-pub loop-e-init : goal.loop-e-init
-loop-e-init c = c.requires.3
 
 pub enter-requires : goal.enter-requires
 unfolding start_of
@@ -21,7 +17,3 @@ loop-e-preserved c =
     let loop = c.loop-e in
     let low : c.place.result < 1280 = rw c.place.ensures.0 (c.requires.2 loop.e c.loop-e-test.true) in
     rw (c.enter.ensures.nexts_after, c.enter.ensures.heads_after) (joined-more _ _ _ _ _ c.place.ensures.0 low (omega (arith, c.loop-e-test.true)) loop.invariant)
-
-pub returns : goal.returns
-returns c =
-    let e : c.loop-e.e ≡ c.args.n = omega arith in rw e at c.loop-e.invariant

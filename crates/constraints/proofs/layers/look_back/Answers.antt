@@ -1,8 +1,7 @@
 -- The links that lead to the node, from `follow` on, were looked at.
 use Prim.Native.Nat.{◌-◌}
-use mathlib.Core.Path.{sym, ◌∙◌}
 use native.Mathlib.Omega.{arith}
-use Rattle.constraints.proofs.Spreading.{looking-none, looking-one, looking-sized, looking-all}
+use Rattle.constraints.proofs.Spreading.{looking-none, looking-one, looking-sized}
 use Rattle.constraints.proofs.layers.look_back.Goals as goal
 
 pub loop-follow-init : goal.loop-follow-init
@@ -17,34 +16,9 @@ look_at-queued-requires c =
     let z = looking-sized _ _ _ _ _ _ _ _ pre.1 pre.2.in_range.from pre.3 loop.invariant in
     (omega (arith, loop.invariant.high, pre.2.in_range.few, c.loop-follow-test.true), omega (arith, z.room.few))
 
-pub loop-follow-smaller : goal.loop-follow-smaller
-loop-follow-smaller c =
-    let loop = c.loop-follow in
-    let test = c.loop-follow-test in
-    let n = c.requires.2.joined.next (loop.follow - 1) (omega (arith, loop.invariant.high, test.true)) in
-    omega (arith, n.high, c.place-follow-in-loop-follow.ensures.0, test.true)
-
 pub loop-follow-preserved : goal.loop-follow-preserved
 loop-follow-preserved c =
     let loop = c.loop-follow in
     let test = c.loop-follow-test in
     let n = c.requires.2.joined.next (loop.follow - 1) (omega (arith, loop.invariant.high, test.true)) in
     rw c.place-follow-in-loop-follow.ensures.0 (looking-one _ _ _ _ _ _ _ _ _ (omega (arith, test.true)) n loop.invariant c.look_at-queued.ensures)
-
-pub shape_of-dists : goal.shape_of-dists
-shape_of-dists c =
-    let pre = c.requires in
-    (looking-sized _ _ _ _ _ _ _ _ pre.1 pre.2.in_range.from pre.3 c.loop-follow.invariant).room.dists_long ∙ sym pre.3.room.dists_long
-
-pub shape_of-ways : goal.shape_of-ways
-shape_of-ways c =
-    let pre = c.requires in
-    (looking-sized _ _ _ _ _ _ _ _ pre.1 pre.2.in_range.from pre.3 c.loop-follow.invariant).room.ways_long ∙ sym pre.3.room.ways_long
-
-pub shape_of-queue : goal.shape_of-queue
-shape_of-queue c =
-    let pre = c.requires in
-    (looking-sized _ _ _ _ _ _ _ _ pre.1 pre.2.in_range.from pre.3 c.loop-follow.invariant).room.queue_long ∙ sym pre.3.room.queue_long
-
-pub returns : goal.returns
-returns c = looking-all _ _ _ _ _ _ _ _ c.loop-follow-test.false c.loop-follow.invariant

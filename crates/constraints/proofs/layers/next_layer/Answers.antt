@@ -1,6 +1,6 @@
 use mathlib.Core.Path.{◌∙◌}
 use native.Mathlib.Omega.{arith}
-use Rattle.constraints.proofs.Spreading.{backward-none, backward-one, backward-sized, backward-node, backward-tail, backward-all}
+use Rattle.constraints.proofs.Spreading.{backward-none, backward-one, backward-sized, backward-node, backward-tail}
 use Rattle.constraints.proofs.layers.next_layer.Goals as goal
 
 pub loop-i-init : goal.loop-i-init
@@ -21,6 +21,3 @@ loop-i-preserved c =
     let test = c.loop-i-test in
     let n = backward-node _ _ _ _ _ _ _ _ _ pre.1 pre.2.in_range.from pre.3 inv c.loop-i.i test.true in
     backward-one _ _ _ _ _ _ _ _ _ _ _ (omega arith) (c.place-node.ensures.0 ∙ n) inv c.look_back-tail.ensures
-
-pub returns : goal.returns
-returns c = backward-all _ _ _ _ _ _ _ _ _ _ (omega arith) c.loop-i-test.false c.loop-i.invariant

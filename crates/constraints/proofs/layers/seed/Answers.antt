@@ -1,13 +1,9 @@
 use native.Mathlib.Omega.{arith}
-use Rattle.constraints.proofs.Spreading.{seeded-none, seeds-next, seeds-room, seeds-end}
+use Rattle.constraints.proofs.Spreading.{seeded-none, seeds-next, seeds-end}
 use Rattle.constraints.proofs.layers.seed.Goals as goal
 
 pub loop-q-init : goal.loop-q-init
 loop-q-init c = λ ways l. seeded-none _ _ _ _ _ _ ways _ c.requires.1 c.requires.2 l
-
-pub seed_one-tail-requires : goal.seed_one-tail-requires
-seed_one-tail-requires c =
-    (omega (arith, c.loop-q-test.true, c.requires.0), (seeds-room _ _ _ _ _ _ _ _ _ c.loop-q.invariant).2)
 
 pub loop-q-preserved : goal.loop-q-preserved
 loop-q-preserved c =

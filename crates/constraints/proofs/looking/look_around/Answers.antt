@@ -1,7 +1,6 @@
 -- Both searches stop nowhere.
 use Prim.Native.Nat.{◌+◌}
 use native.Mathlib.Omega.{arith}
-use mathlib.Core.Path.{◌∙◌}
 use Rattle.constraints.specs.Search.{start_of}
 use Rattle.constraints.proofs.Searching.{reached}
 use Rattle.constraints.proofs.looking.look_around.Goals as goal
@@ -12,15 +11,6 @@ search-requires c =
     let args = c.args in
     let pre = c.requires in
     (omega (arith, c.place-group.ensures.0, pre.3.low args.a (omega arith)), omega arith, omega arith, omega arith, λ e h. omega (arith, pre.3.low (args.cached + args.noted + e) (omega arith)), pre.4, pre.5.outs_are, pre.5.queue_long)
-
-pub look_back-requires : goal.look_back-requires
-look_back-requires c =
-    let args = c.args in
-    let pre = c.requires in
-    (pre.0, pre.1, omega (arith, c.place-group.ensures.0, pre.3.low args.a (omega arith)), pre.3, pre.5.ins_are, c.search.auto.queue ∙ pre.5.queue_long)
-
-pub mark_above-requires : goal.mark_above-requires
-mark_above-requires c = (omega arith, c.requires.5.aboves_are)
 
 pub returns : goal.returns
 returns c =

@@ -26,12 +26,6 @@ returns-then-noted-eq0 c =
       ]
     ]
 
-pub look_around-requires : goal.look_around-requires
-look_around-requires c =
-    let pre = c.requires in
-    let linked = c.if-noted-eq0.false in
-    (pre.0, pre.1, pre.2, pre.3, ⊎_elim (λ z. absurd (linked z)) (λ j. j) pre.4, ⊎_elim (λ z. absurd (linked z)) (λ m. m) pre.5.full)
-
 pub returns : goal.returns
 returns c =
     let pre = c.requires in

@@ -13,9 +13,6 @@ pub returns-then-turn-eq1 : goal.returns-then-turn-eq1
 unfolding request_at
 returns-then-turn-eq1 c = sym (ap (λ (t : ℕ). request_at t c.args.newcomer) c.if-turn-eq1.true)
 
-pub overflow_sub-result : goal.overflow_sub-result
-overflow_sub-result c = omega (arith, c.if-turn-eq0.false, c.if-turn-eq1.false)
-
 pub returns : goal.returns
 unfolding request_at
 returns c =

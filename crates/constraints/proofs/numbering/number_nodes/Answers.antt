@@ -1,5 +1,5 @@
 use Prim.Native.Nat.{◌≤◌}
-use mathlib.Core.Path.{◌≡◌, refl, sym}
+use mathlib.Core.Path.{refl, sym}
 use native.Mathlib.Omega.{arith}
 use Rattle.constraints.specs.Nodes.{First}
 use Rattle.constraints.proofs.Filling.{fill_more, joined-first, joined-more, bucket-key}
@@ -15,9 +15,6 @@ node_of-node-requires c =
     let key = bucket-key c.args.numbers.now loop.p _ _ c.bucket-key.ensures.0 refl in
     (omega arith, omega (arith, c.loop-p-test.true), omega arith, omega (arith, loop.invariant.1.nexts_long), loop.invariant.0, rw (c.from.ensures, sym key) (loop.invariant.1.head c.bucket-key.result (omega (arith, c.bucket-key.ensures.1))), loop.invariant.1.next)
 
-pub enter-requires : goal.enter-requires
-enter-requires c = (omega (arith, c.loop-p-test.true), omega (arith, c.loop-p.invariant.1.nexts_long, c.loop-p-test.true), omega (arith, c.loop-p.invariant.1.heads_long, c.bucket-key.ensures.1))
-
 pub loop-p-preserved : goal.loop-p-preserved
 loop-p-preserved c =
     let loop = c.loop-p in
@@ -28,7 +25,3 @@ loop-p-preserved c =
           c.node_of-node.ensures,
       joined-more _ _ _ _ _ key (omega (arith, c.bucket-key.ensures.1)) (omega (arith, c.loop-p-test.true)) loop.invariant.1,
     )
-
-pub returns : goal.returns
-returns c =
-    let e : c.loop-p.p ≡ c.args.n = omega arith in rw e at c.loop-p.invariant.0

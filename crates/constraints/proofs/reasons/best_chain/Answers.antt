@@ -51,13 +51,6 @@ module _ (c : After-label_links) where
   alone = sole c.link_nodes.ensures c.label_links.ensures c.requires.0
       (omega (arith, tied_is, at-most-low cache_limit (get_or counts count_ties 0))) (omega (arith, noted-is, at-most-low cache_limit (get_or counts count_subtypes 0)))
 
-pub list_classes-requires : goal.list_classes-requires
-list_classes-requires c =
-    (omega arith, c.at_most-cached.ensures.1, λ p h. omega (arith, (c.number_nodes.ensures p (omega arith)).low))
-
-pub overflow_add-turned-2 : goal.overflow_add-turned-2
-overflow_add-turned-2 c = omega (arith, c.at_most-noted.ensures.1, c.at_most-tied.ensures.1)
-
 pub search_links-requires : goal.search_links-requires
 search_links-requires c =
     let d = (goal.at.search_links-requires c).After-label_links in

@@ -1,7 +1,5 @@
 -- The chain that is kept, if there is one, is written into the list.
 use mathlib.Core.Path.{sym, ◌∙◌}
-use native.Mathlib.Omega.{arith}
-use borrow.Author.Rules.{rules}
 use Rattle.constraints.proofs.Finding.{list-unfit, list-none, list-some}
 use Rattle.constraints.proofs.reasons.reason.Goals as goal
 
@@ -10,14 +8,8 @@ returns-then-not-numbers_fit c =
     let args = c.args in
     list-unfit args.supers.now args.counts.now args.cache.now args.ties.now args.subtypes.now args.list.now (sym c.numbers_fit.ensures ∙ c.if-not-numbers_fit.true)
 
-pub best_chain-requires : goal.best_chain-requires
-best_chain-requires c = (sym c.numbers_fit.ensures ∙ c.if-not-numbers_fit.false, search rules)
-
 pub returns-in_default : goal.returns-in_default
 returns-in_default c = list-none c.args.list.now _ (rw c.in_default.is at c.best_chain.ensures.1)
-
-pub write_list-requires : goal.write_list-requires
-write_list-requires c = omega (arith, c.from.ensures, rw c.in-Some.is at c.best_chain.ensures.0.fits)
 
 pub returns : goal.returns
 returns c = list-some _ c.args.list.now _ _ _ _ (rw c.in-Some.is at c.best_chain.ensures.1) c.from.ensures c.write_list.ensures

@@ -1,11 +1,8 @@
 -- A group that is not marked yet has room in the queue, since no more groups are queued than are marked.
 use Prim.Native.Nat.{◌<◌}
 use native.Mathlib.Omega.{arith}
-use Rattle.constraints.proofs.Searching.{visit-old, visit-low, visit-new, room}
+use Rattle.constraints.proofs.Searching.{visit-low, visit-new, room}
 use Rattle.constraints.proofs.search.visit.Goals as goal
-
-pub returns-then-marks-group : goal.returns-then-marks-group
-returns-then-marks-group c = visit-old _ _ _ _ _ _ c.requires.2 c.if-marks-group.true
 
 pub returns-then-group-stop : goal.returns-then-group-stop
 returns-then-group-stop c = let pre = c.requires in visit-low _ _ _ _ _ _ pre.2 pre.0 c.if-marks-group.false (omega (arith, c.if-group-stop.true))

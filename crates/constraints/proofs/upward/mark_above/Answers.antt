@@ -1,4 +1,4 @@
-use Rattle.constraints.proofs.Supers.{raising-start, raising-next, raised, height-falls}
+use Rattle.constraints.proofs.Supers.{raising-start, raising-next, height-falls}
 use Rattle.constraints.proofs.upward.mark_above.Goals as goal
 
 pub loop-next-init : goal.loop-next-init
@@ -13,6 +13,3 @@ pub loop-next-preserved : goal.loop-next-preserved
 loop-next-preserved c =
     let above = c.above-next-in-Some in
     rw c.put.ensures (raising-next _ _ _ _ _ _ _ c.in-Some.is c.loop-next.invariant above.ensures.is (λ p e. rw e at above.ensures.few))
-
-pub returns : goal.returns
-returns c = raised _ _ _ _ _ c.in_default.is c.loop-next.invariant

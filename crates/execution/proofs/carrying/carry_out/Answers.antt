@@ -1,5 +1,5 @@
 -- Each arm leaves what its plan says.
-use mathlib.Core.Path.{refl}
+use Rattle.std.proofs.Common.{refl}
 use Rattle.execution.proofs.carrying.carry_out.Goals as goal
 
 pub push-requires : goal.push-requires

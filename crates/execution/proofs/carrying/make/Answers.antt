@@ -3,7 +3,6 @@ use Rattle.definition.specs.Instructions.{pick}
 use Rattle.definition.specs.Tables.{value_of}
 use Rattle.execution.proofs.carrying.make.Goals as goal
 
-pub returns : goal.returns
+pub returns-clause-pushed : goal.returns-clause-pushed
 unfolding value_of pick
-returns c =
-    record { counted = c.take_row.ensures; made = rw (c.write_new.ensures, c.from.ensures); pushed = rw (c.push.ensures, c.from-2.ensures) }
+returns-clause-pushed c = rw (c.push.ensures, c.from-2.ensures)

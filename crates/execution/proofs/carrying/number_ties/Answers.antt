@@ -1,6 +1,6 @@
 -- As many rows as there are ties, all within both tables.
 use native.Mathlib.Omega.{arith}
-use mathlib.Core.Path.{◌∙◌}
+use Rattle.std.proofs.Common.{◌∙◌}
 use Rattle.store.specs.Numbering.{numbered-few}
 use Rattle.execution.proofs.carrying.number_ties.Goals as goal
 

@@ -1,5 +1,5 @@
 -- Rows and count of ties that fit, and how many there were. Where there are none both tables are as they were.
-use mathlib.Core.Path.{◌≡◌, refl, sym, ap, ◌∙◌}
+use Rattle.std.proofs.Common.{◌≡◌, refl, sym, ap, ◌∙◌}
 use mathlib.Core.List.{List, [], ◌∷◌}
 use Prim.Native.Nat.{ℕ, ◌+◌}
 use native.Mathlib.Omega.{arith}
@@ -26,10 +26,3 @@ returns-then-k-eq0 c =
     let none = nothing-posted _ _ _ (sym c.tie_number-k.ensures.0 ∙ c.if-k-eq0.true) in
     record { counted = none.0; written = none.1; behind = (c.at-n.ensures, c.at-subtypes.ensures) }
 
-pub overflow_add-n : goal.overflow_add-n
-overflow_add-n c =
-    omega (arith, c.at-n.ensures, c.requires, c.tie_number-k.ensures.0)
-
-pub returns : goal.returns
-returns c =
-    record { counted = rw (c.put.ensures, c.tie_number-k.ensures.0, c.at-n.ensures); written = rw (c.write_ties.ensures, c.at-n.ensures); behind = (c.at-n.ensures, c.at-subtypes.ensures) }

@@ -1,5 +1,5 @@
 -- Each instruction is decided as the machine does: an arm hands on what the function of its instruction ensures.
-use mathlib.Core.Path.{refl, ◌∙◌}
+use Rattle.std.proofs.Common.{refl, ◌∙◌}
 use native.Mathlib.Omega.{arith}
 use Rattle.execution.specs.Decisions.{acted-frame, acted-return, acted-make, acted-access, narrow, frames-room}
 use Rattle.execution.proofs.deciding.act.Goals as goal
@@ -11,10 +11,6 @@ settle_access-requires c =
 pub settle_access-requires-in-Putfield : goal.settle_access-requires-in-Putfield
 settle_access-requires-in-Putfield c =
     (c.requires.0.counts, c.requires.0.ties, c.requires.0.between, c.requires.3, narrow _ _ _ _ _ c.requires.0 _ _ _ _ _ _ _ _ _ c.putfield.ensures)
-
-pub overflow_add-top : goal.overflow_add-top
-overflow_add-top c =
-    omega (arith, c.requires.1)
 
 pub settle_access-requires-in-Invokevirtual : goal.settle_access-requires-in-Invokevirtual
 settle_access-requires-in-Invokevirtual c =

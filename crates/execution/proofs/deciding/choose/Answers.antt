@@ -8,14 +8,14 @@ pub returns-in_default : goal.returns-in_default
 returns-in_default c =
     let code = rw c.file_of-file.ensures at c.code_of-code.ensures in
     let version = rw c.file_of-file.ensures at c.version-version.ensures in
-    rw c.refuse.ensures (chosen-unreadable _ _ _ _ _ _ _ _ c.requires.0 _ _ _ c.requires.1 c.requires.2 c.requires.3.0 _ _ _ _ _ c.frame_class-c.ensures c.frame_method-j.ensures c.point-p.ensures code version 0 (rw c.wide32.ensures.0 at (unread _ _ c.decode.ensures c.in_default.is)))
+    rw c.refuse.ensures (chosen-unreadable _ _ _ _ _ _ _ _ c.requires.0 _ _ _ c.requires.1 c.requires.2 c.requires.3.0 _ _ _ _ _ c.frame_class-c.ensures c.frame_method-j.ensures c.point-p.ensures code version 0 ((unread _ _ c.decode.ensures c.in_default.is)))
 
 pub act-r-requires : goal.act-r-requires
 act-r-requires c =
-    let counts = c.args.counts.now in
-    let classes = c.args.classes.now in
-    let kept = c.args.kept.now in
-    let cache = c.args.cache.now in
+    let counts = c.args.base.now.counts.now in
+    let classes = c.args.base.now.classes.now in
+    let kept = c.args.base.now.kept.now in
+    let cache = c.args.base.now.cache.now in
     let ties = c.args.ties.now in
     let subtypes = c.args.subtypes.now in
     let objects = c.args.objects.now in
@@ -26,16 +26,16 @@ pub overflow_add-result : goal.overflow_add-result
 overflow_add-result c =
     let code = rw c.file_of-file.ensures at c.code_of-code.ensures in
     let version = rw c.file_of-file.ensures at c.version-version.ensures in
-    omega (arith, c.wide32-2.ensures.0, next_fits _ _ _ _ _ _ _ _ c.requires.0 _ _ _ c.requires.1 c.requires.2 c.requires.3.0 _ _ _ _ _ c.frame_class-c.ensures c.frame_method-j.ensures c.point-p.ensures code version _ _ (rw c.wide32.ensures.0 at (read_at _ _ c.decode.ensures _ _ c.in-At.is)))
+    omega (arith, next_fits _ _ _ _ _ _ _ _ c.requires.0 _ _ _ c.requires.1 c.requires.2 c.requires.3.0 _ _ _ _ _ c.frame_class-c.ensures c.frame_method-j.ensures c.point-p.ensures code version _ _ ((read_at _ _ c.decode.ensures _ c.in-Some.is)))
 
-pub overflow_cast-result : goal.overflow_cast-result
-overflow_cast-result c =
+pub overflow_cast-result-2 : goal.overflow_cast-result-2
+overflow_cast-result-2 c =
     let code = rw c.file_of-file.ensures at c.code_of-code.ensures in
     let version = rw c.file_of-file.ensures at c.version-version.ensures in
-    omega (arith, c.wide32-2.ensures.0, next_fits _ _ _ _ _ _ _ _ c.requires.0 _ _ _ c.requires.1 c.requires.2 c.requires.3.0 _ _ _ _ _ c.frame_class-c.ensures c.frame_method-j.ensures c.point-p.ensures code version _ _ (rw c.wide32.ensures.0 at (read_at _ _ c.decode.ensures _ _ c.in-At.is)))
+    omega (arith, next_fits _ _ _ _ _ _ _ _ c.requires.0 _ _ _ c.requires.1 c.requires.2 c.requires.3.0 _ _ _ _ _ c.frame_class-c.ensures c.frame_method-j.ensures c.point-p.ensures code version _ _ ((read_at _ _ c.decode.ensures _ c.in-Some.is)))
 
 pub returns : goal.returns
 returns c =
     let code = rw c.file_of-file.ensures at c.code_of-code.ensures in
     let version = rw c.file_of-file.ensures at c.version-version.ensures in
-    rw c.wide32-2.ensures.0 (chosen _ _ _ _ _ _ _ _ c.requires.0 _ _ _ c.requires.1 c.requires.2 c.requires.3.0 _ _ _ _ _ c.frame_class-c.ensures c.frame_method-j.ensures c.point-p.ensures code version _ _ _ _ _ _ (rw c.wide32.ensures.0 at (read_at _ _ c.decode.ensures _ _ c.in-At.is)) c.requires.3.1 (rw c.frame_class-c.ensures c.requires.3.2) c.act-r.ensures)
+    (chosen _ _ _ _ _ _ _ _ c.requires.0 _ _ _ c.requires.1 c.requires.2 c.requires.3.0 _ _ _ _ _ c.frame_class-c.ensures c.frame_method-j.ensures c.point-p.ensures code version _ _ _ _ _ _ ((read_at _ _ c.decode.ensures _ c.in-Some.is)) c.requires.3.1 (rw c.frame_class-c.ensures c.requires.3.2) c.act-r.ensures)

@@ -2,7 +2,7 @@
 use Rattle.execution.specs.Opcodes.{opcode_numbered}
 use Rattle.definition.specs.Instructions.{pick}
 use Rattle.execution.specs.Reaches.{plainly}
-use mathlib.Core.Path.{ap, ◌∙◌}
+use Rattle.std.proofs.Common.{ap, ◌∙◌}
 use Rattle.execution.proofs.reaching.reach.Goals as goal
 
 pub returns-in-16 : goal.returns-in-16
@@ -13,5 +13,3 @@ pub returns-in-17 : goal.returns-in-17
 unfolding opcode_numbered pick
 returns-in-17 c = λ v e. c.putfield.ensures v (e ∙ ap opcode_numbered c.in-17.is)
 
-pub returns-in_default : goal.returns-in_default
-returns-in_default c = plainly _ _ _ _ _ _ _ _ _ _ _ _ c.one.ensures

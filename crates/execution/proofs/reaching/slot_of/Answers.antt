@@ -1,5 +1,5 @@
 -- Where no slot is remembered the answer is 16, which is none; else the receiver is an object in use, of a class below 64, at a place below 512.
-use mathlib.Core.Path.{sym, ◌∙◌}
+use Rattle.std.proofs.Common.{sym, ◌∙◌}
 use native.Mathlib.Omega.{arith}
 use Rattle.execution.proofs.reaching.slot_of.Goals as goal
 

@@ -1,5 +1,5 @@
 -- 'Broken' comes first, then n's limits.
-use mathlib.Core.Path.{sym, ◌∙◌}
+use Rattle.std.proofs.Common.{sym, ◌∙◌}
 use Rattle.execution.specs.Runs.{ruled-broken, ruled-none, ruled-many, ruled-runs}
 use Rattle.execution.proofs.runs.denied.Goals as goal
 
@@ -12,5 +12,3 @@ returns-then-n-eq0 c = ruled-none _ _ (sym c.is_broken.ensures ∙ c.if-is_broke
 pub returns-then-n-gt-RUN_LIMIT : goal.returns-then-n-gt-RUN_LIMIT
 returns-then-n-gt-RUN_LIMIT c = ruled-many _ _ (sym c.is_broken.ensures ∙ c.if-is_broken.false) c.if-n-gt-RUN_LIMIT.true
 
-pub returns-else-n-gt-RUN_LIMIT : goal.returns-else-n-gt-RUN_LIMIT
-returns-else-n-gt-RUN_LIMIT c = ruled-runs _ _ (sym c.is_broken.ensures ∙ c.if-is_broken.false) c.if-n-eq0.false c.if-n-gt-RUN_LIMIT.false

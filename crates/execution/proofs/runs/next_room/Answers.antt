@@ -13,9 +13,6 @@ pub returns-then-free-room : goal.returns-then-free-room
 unfolding made_next pick
 returns-then-free-room c = (c.unused-free.ensures, rw (ne_eqb _ _ c.if-turn-eq0.false, eq-eqb _ _ c.if-free-room.true))
 
-pub overflow_add-result : goal.overflow_add-result
-overflow_add-result c = omega arith
-
 pub returns : goal.returns
 unfolding made_next pick
 returns c = (c.unused-free.ensures, rw (ne_eqb _ _ c.if-turn-eq0.false, ne_eqb _ _ c.if-free-room.false) (omega arith))

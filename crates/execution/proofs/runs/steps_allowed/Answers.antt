@@ -1,5 +1,5 @@
 -- Nobody has a turn: the run is idle. Else the steps are taken, with nothing remembered at first.
-use mathlib.Core.Path.{refl, ◌∙◌}
+use Rattle.std.proofs.Common.{refl, ◌∙◌}
 use Rattle.definition.specs.Lists.{rows}
 use Rattle.definition.specs.Instructions.{pick, opcode_of}
 use Rattle.execution.specs.Opcodes.{numbers, number_at, version_at}
@@ -15,12 +15,7 @@ pub steps-requires : goal.steps-requires
 unfolding numbers rows number_at version_at opcode_of pick
 steps-requires c = (c.requires.0, refl, none-noted _ _ _ _ _ _ 1)
 
-pub returns-then-n-lt-LONG_RUN : goal.returns-then-n-lt-LONG_RUN
-returns-then-n-lt-LONG_RUN c = c.steps.ensures
-
 pub steps-requires-2 : goal.steps-requires-2
 unfolding numbers rows number_at version_at opcode_of pick
 steps-requires-2 c = (c.requires.0, refl, none-noted _ _ _ _ _ _ 512)
 
-pub returns : goal.returns
-returns c = c.steps-2.ensures

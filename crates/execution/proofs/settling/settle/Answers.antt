@@ -1,5 +1,5 @@
 -- No room, then no ties under one loader, then full, then a clash, and else the plan with its ties.
-use mathlib.Core.Path.{refl, sym, ◌∙◌}
+use Rattle.std.proofs.Common.{refl, sym, ◌∙◌}
 use native.Mathlib.Omega.{arith}
 use Rattle.definition.specs.Constraints.{agrees}
 use Rattle.unbroken.specs.Steps.{news-between}
@@ -18,9 +18,6 @@ returns-then-one-two c =
 pub returns-then-k-eq0 : goal.returns-then-k-eq0
 returns-then-k-eq0 c =
     rw (c.decided-then-k-eq0.ensures.0, c.decided-then-k-eq0.ensures.1) (settle-none _ _ _ _ _ _ _ c.requires.0.ties _ _ (c.new_ties-posting.ensures ∙ rw c.at-n.ensures) _ c.if-not-room.false (sym c.tie_number-k.ensures.0 ∙ c.if-k-eq0.true))
-
-pub overflow_add-n : goal.overflow_add-n
-overflow_add-n c = omega (arith, c.tie_number-k.ensures.1, c.at-n.ensures, c.requires.0.ties)
 
 pub returns-then-n-k-gt-TIE_LIMIT : goal.returns-then-n-k-gt-TIE_LIMIT
 returns-then-n-k-gt-TIE_LIMIT c =

@@ -4,11 +4,7 @@ use Rattle.definition.specs.Lists.{filled}
 use Rattle.definition.specs.Tables.{value_of}
 use Rattle.execution.proofs.starting.begin.Goals as goal
 
-pub returns : goal.returns
+pub returns-clause-entered : goal.returns-clause-entered
 unfolding value_of pick filled
-returns c =
-    record {
-      counted = rw (c.put.ensures, c.write_frame_count.ensures, c.take_row.ensures);
-      made = rw (c.write_new.ensures, c.from.ensures);
-      entered = rw (c.write_entry.ensures, c.row.ensures, c.from-2.ensures, c.empty.ensures, c.empty-2.ensures, c.empty-3.ensures);
-    }
+returns-clause-entered c =
+    rw (c.write_entry.ensures, c.row.ensures, c.from-2.ensures, c.empty.ensures, c.empty-2.ensures, c.empty-3.ensures)

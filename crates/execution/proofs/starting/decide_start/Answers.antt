@@ -1,5 +1,5 @@
 -- 'Broken' comes first, then what is decided on the classes and the cache.
-use mathlib.Core.Path.{sym, ◌∙◌}
+use Rattle.std.proofs.Common.{sym, ◌∙◌}
 use Rattle.execution.specs.Starts.{start-broken, opens}
 use Rattle.execution.proofs.starting.decide_start.Goals as goal
 

@@ -1,5 +1,5 @@
 -- One test for 'broken', then the step of a store that is not.
-use mathlib.Core.Path.{sym, ◌∙◌}
+use Rattle.std.proofs.Common.{sym, ◌∙◌}
 use Rattle.execution.specs.Turns.{step-broken}
 use Rattle.definition.specs.Tables.{tables}
 use Rattle.execution.proofs.turns.step.Goals as goal
@@ -8,8 +8,3 @@ pub returns-then-is_broken : goal.returns-then-is_broken
 returns-then-is_broken c =
     step-broken (tables c.args.counts.now c.args.classes.now c.args.kept.now c.args.cache.now c.args.ties.now c.args.subtypes.now c.args.objects.now c.args.frames.now) (sym c.is_broken.ensures ∙ c.if-is_broken.true)
 
-pub step_unbroken-requires : goal.step_unbroken-requires
-step_unbroken-requires c = (sym c.is_broken.ensures ∙ c.if-is_broken.false, c.room_for_turn-room.ensures)
-
-pub returns : goal.returns
-returns c = c.step_unbroken.ensures

@@ -1,5 +1,5 @@
 -- Nobody's turn is idle; else what was chosen is carried out, and that is the step of the task whose turn it is.
-use mathlib.Core.Path.{ap, ◌∙◌}
+use Rattle.std.proofs.Common.{ap, ◌∙◌}
 use native.Mathlib.Omega.{arith}
 use Rattle.tasks.specs.Turns.{turn_two}
 use Rattle.layout.specs.Unbroken.{unbroken}
@@ -24,9 +24,6 @@ top_frame-top-requires c =
 pub choose-r-requires : goal.choose-r-requires
 choose-r-requires c =
     (c.requires.0, rw (c.top_frame-top.ensures.0, c.turn-task.ensures) (turn_two c.args.counts.now), rw (c.top_frame-top.ensures.0, c.top_frame-top.ensures.1) (turn-count _ _ _ _ _ _ _ _ c.requires.0 _ _ c.turn-task.ensures c.frame_count-n.ensures c.if-n-eq0.false), c.top_frame-top.ensures.2, rw (c.top_frame-top.ensures.0, c.turn-task.ensures) c.requires.1)
-
-pub post_ties-before-requires : goal.post_ties-before-requires
-post_ties-before-requires c = c.choose-r.ensures.ready.ties
 
 pub carry_out-answer-requires : goal.carry_out-answer-requires
 carry_out-answer-requires c = still-ready _ _ _ _ _ _ _ _ _ _ _ _ _ c.choose-r.ensures.ready _ c.post_ties-before.ensures.counted

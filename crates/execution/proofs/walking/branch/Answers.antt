@@ -4,8 +4,5 @@ use Rattle.execution.specs.Plain.{stayed, stepping, decode-branch}
 use native.Mathlib.Omega.{arith}
 use Rattle.execution.proofs.walking.branch.Goals as goal
 
-pub returns-then-code-at-le2 : goal.returns-then-code-at-le2
-returns-then-code-at-le2 c = λ v e. stayed v _ _ _ _ _ c.stay.ensures
-
 pub returns : goal.returns
-returns c = λ v e. stepping v _ _ _ _ _ _ c.requires.1 (Branch _ _) 3 _ _ _ (decode-branch v _ _ _ _ (omega (arith, c.if-code-at-le2.false, c.wide32-at.ensures.0)) (rw c.wide32-at.ensures.0 at c.short_at-target.ensures) e) c.top_of.ensures c.branch-plan.ensures c.put_point.ensures
+returns c = λ v e. stepping v _ _ _ _ _ _ c.requires.1 (Branch _ _) 3 _ _ _ (decode-branch v _ _ _ _ (omega (arith, c.if-code-at-le2.false)) c.short_at-target.ensures e) c.top_of.ensures c.branch-plan.ensures c.put_point.ensures

@@ -4,8 +4,5 @@ use Rattle.execution.specs.Plain.{stayed, stepping, decode-load}
 use native.Mathlib.Omega.{arith}
 use Rattle.execution.proofs.walking.load.Goals as goal
 
-pub returns-then-code-at-le1 : goal.returns-then-code-at-le1
-returns-then-code-at-le1 c = λ v e. stayed v _ _ _ _ _ c.stay.ensures
-
 pub returns : goal.returns
-returns c = λ v e. stepping v _ _ _ _ _ _ c.requires.1 (Load _ _) 2 _ _ _ (decode-load v _ _ _ _ (omega (arith, c.if-code-at-le1.false, c.wide32-at.ensures.0)) (rw c.wide32-at.ensures.0 at c.at-j.ensures) e) c.top_of.ensures c.load-plan.ensures c.put_above.ensures
+returns c = λ v e. stepping v _ _ _ _ _ _ c.requires.1 (Load _ _) 2 _ _ _ (decode-load v _ _ _ _ (omega (arith, c.if-code-at-le1.false)) c.at-j.ensures e) c.top_of.ensures c.load-plan.ensures c.put_above.ensures

@@ -2,7 +2,7 @@
 use Rattle.definition.specs.Instructions.{pick}
 use Rattle.execution.specs.Opcodes.{opcode_numbered}
 use Rattle.execution.specs.Plain.{stayed}
-use mathlib.Core.Path.{ap, ◌∙◌}
+use Rattle.std.proofs.Common.{ap, ◌∙◌}
 use Rattle.execution.proofs.walking.one.Goals as goal
 
 pub returns-in-1 : goal.returns-in-1
@@ -65,5 +65,3 @@ pub returns-in-15 : goal.returns-in-15
 unfolding opcode_numbered pick
 returns-in-15 c = λ v e. c.branch-row-in-15.ensures v (e ∙ ap opcode_numbered c.in-15.is)
 
-pub returns-in_default : goal.returns-in_default
-returns-in_default c = λ v e. stayed v _ _ _ _ _ c.stay.ensures

@@ -2,12 +2,9 @@
 use Rattle.definition.specs.Instructions.{extend}
 use Rattle.definition.specs.declared.Instruction.TheVariants.{Sipush}
 use Rattle.execution.specs.Plain.{stayed, stepping, decode-sipush}
-use mathlib.Core.Path.{ap, ◌∙◌}
+use Rattle.std.proofs.Common.{ap, ◌∙◌}
 use native.Mathlib.Omega.{arith}
 use Rattle.execution.proofs.walking.sipush.Goals as goal
 
-pub returns-then-code-at-le2 : goal.returns-then-code-at-le2
-returns-then-code-at-le2 c = λ v e. stayed v _ _ _ _ _ c.stay.ensures
-
 pub returns : goal.returns
-returns c = λ v e. stepping v _ _ _ _ _ _ c.requires.1 (Sipush _) 3 _ _ _ (decode-sipush v _ _ _ (omega (arith, c.if-code-at-le2.false, c.wide32-at.ensures.0)) (c.extended-n.ensures ∙ ap extend (rw c.wide32-at.ensures.0 at c.short_at.ensures)) e) c.top_of.ensures (c.sipush.ensures _ _) c.put_above.ensures
+returns c = λ v e. stepping v _ _ _ _ _ _ c.requires.1 (Sipush _) 3 _ _ _ (decode-sipush v _ _ _ (omega (arith, c.if-code-at-le2.false)) (c.extended-n.ensures ∙ ap extend c.short_at.ensures) e) c.top_of.ensures (c.sipush.ensures _ _) c.put_above.ensures

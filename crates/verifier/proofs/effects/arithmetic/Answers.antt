@@ -10,37 +10,38 @@ use Rattle.verifier.specs.Answers.{outcome_of}
 use Rattle.verifier.proofs.EffectLaws.{int_is, int-not}
 use Rattle.verifier.proofs.effects.arithmetic.Goals as goal
 
-pub returns-in_default : goal.returns-in_default
+pub returns-in_err-second : goal.returns-in_err-second
 unfolding outcome_of going effect types_of ◌>>=◌
-returns-in_default c o = rw (popped-empty _ _ _ c.pop.ensures c.in_default.is)
+returns-in_err-second c o = rw (c.from_residual.ensures, popped-empty _ _ _ c.pop.ensures c.in_err-second.was)
 
-pub returns-in_default-pop : goal.returns-in_default-pop
+pub returns-in_err-first : goal.returns-in_err-first
 unfolding outcome_of going effect types_of ◌>>=◌
-returns-in_default-pop c o =
+returns-in_err-first c o =
     rw (
-      popped-top _ _ _ c.pop.ensures c.in-Top.is,
-      popped-empty _ _ _ c.pop-2.ensures c.in_default-pop.is,
+      c.from_residual-in_err-first.ensures,
+      popped-top _ _ _ c.pop.ensures c.in_ok-second.was,
+      popped-empty _ _ _ c.pop-2.ensures c.in_err-first.was,
     )
 
-pub returns-then-x-ne-INT : goal.returns-then-x-ne-INT
+pub returns-then-second-ne-INT : goal.returns-then-second-ne-INT
 unfolding outcome_of going effect types_of ◌>>=◌
-returns-then-x-ne-INT c o =
+returns-then-second-ne-INT c o =
     rw (
       popped-top _ _ _ c.pop.ensures
-          c.in-Top.is,
-      popped-top _ _ _ c.pop-2.ensures c.in-Top-pop.is,
-      int-not _ c.if-x-ne-INT.true,
+          c.in_ok-second.was,
+      popped-top _ _ _ c.pop-2.ensures c.in_ok-first.was,
+      int-not _ c.if-second-ne-INT.true,
     )
 
-pub returns-then-y-ne-INT : goal.returns-then-y-ne-INT
+pub returns-then-first-ne-INT : goal.returns-then-first-ne-INT
 unfolding outcome_of going effect types_of ◌>>=◌
-returns-then-y-ne-INT c o =
+returns-then-first-ne-INT c o =
     rw (
       popped-top _ _ _ c.pop.ensures
-          c.in-Top.is,
-      popped-top _ _ _ c.pop-2.ensures c.in-Top-pop.is,
-      int_is _ c.if-x-ne-INT.false,
-      int-not _ c.if-y-ne-INT.true,
+          c.in_ok-second.was,
+      popped-top _ _ _ c.pop-2.ensures c.in_ok-first.was,
+      int_is _ c.if-second-ne-INT.false,
+      int-not _ c.if-first-ne-INT.true,
     )
 
 pub returns : goal.returns
@@ -48,9 +49,9 @@ unfolding outcome_of going effect types_of ◌>>=◌ notes_in values_trace meet_
 returns c o =
     rw (
       popped-top _ _ _ c.pop.ensures
-          c.in-Top.is,
-      popped-top _ _ _ c.pop-2.ensures c.in-Top-pop.is,
-      int_is _ c.if-x-ne-INT.false,
-      int_is _ c.if-y-ne-INT.false,
+          c.in_ok-second.was,
+      popped-top _ _ _ c.pop-2.ensures c.in_ok-first.was,
+      int_is _ c.if-second-ne-INT.false,
+      int_is _ c.if-first-ne-INT.false,
       type-int 65536 refl,
     )

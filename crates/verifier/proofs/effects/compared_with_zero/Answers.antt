@@ -9,22 +9,22 @@ use Rattle.verifier.specs.Answers.{outcome_of}
 use Rattle.verifier.proofs.EffectLaws.{int_is, int-not}
 use Rattle.verifier.proofs.effects.compared_with_zero.Goals as goal
 
-pub returns-in_default : goal.returns-in_default
+pub returns-in_err-last : goal.returns-in_err-last
 unfolding outcome_of going effect types_of ◌>>=◌
-returns-in_default c o = rw (popped-empty _ _ _ c.pop.ensures c.in_default.is)
+returns-in_err-last c o = rw (c.from_residual.ensures, popped-empty _ _ _ c.pop.ensures c.in_err-last.was)
 
-pub returns-then-x-ne-INT : goal.returns-then-x-ne-INT
+pub returns-then-last-ne-INT : goal.returns-then-last-ne-INT
 unfolding outcome_of going effect types_of ◌>>=◌
-returns-then-x-ne-INT c o =
+returns-then-last-ne-INT c o =
     rw (
-      popped-top _ _ _ c.pop.ensures c.in-Top.is,
-      int-not _ c.if-x-ne-INT.true,
+      popped-top _ _ _ c.pop.ensures c.in_ok-last.was,
+      int-not _ c.if-last-ne-INT.true,
     )
 
 pub returns : goal.returns
 unfolding outcome_of going effect types_of ◌>>=◌ notes_in values_trace meet_from
 returns c o =
     rw (
-      popped-top _ _ _ c.pop.ensures c.in-Top.is,
-      int_is _ c.if-x-ne-INT.false,
+      popped-top _ _ _ c.pop.ensures c.in_ok-last.was,
+      int_is _ c.if-last-ne-INT.false,
     )

@@ -8,10 +8,10 @@ use Rattle.verifier.specs.Trace.{meet_from, values_trace}
 use Rattle.verifier.specs.Answers.{outcome_of}
 use Rattle.verifier.proofs.effects.drop.Goals as goal
 
-pub returns-in_default : goal.returns-in_default
+pub returns-in_err-last : goal.returns-in_err-last
 unfolding outcome_of going effect types_of ◌>>=◌
-returns-in_default c = rw (popped-empty _ _ _ c.pop.ensures c.in_default.is)
+returns-in_err-last c = rw (c.from_residual.ensures, popped-empty _ _ _ c.pop.ensures c.in_err-last.was)
 
 pub returns : goal.returns
 unfolding outcome_of going effect types_of ◌>>=◌ notes_in values_trace meet_from
-returns c = rw (popped-top _ _ _ c.pop.ensures c.in-Top.is)
+returns c = rw (popped-top _ _ _ c.pop.ensures c.in_ok-last.was)

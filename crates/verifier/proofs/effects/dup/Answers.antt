@@ -11,15 +11,15 @@ use Rattle.verifier.specs.Trace.{meet_from, values_trace}
 use Rattle.verifier.specs.Answers.{outcome_of}
 use Rattle.verifier.proofs.effects.dup.Goals as goal
 
-pub returns-in_default : goal.returns-in_default
+pub returns-in_err-last : goal.returns-in_err-last
 unfolding outcome_of going effect types_of ◌>>=◌
-returns-in_default c = rw (popped-empty _ _ _ c.pop.ensures c.in_default.is)
+returns-in_err-last c = rw (c.from_residual.ensures, popped-empty _ _ _ c.pop.ensures c.in_err-last.was)
 
 pub returns : goal.returns
 unfolding outcome_of going effect types_of ◌>>=◌ notes_in values_trace meet_from pop
 returns c =
     let whole : stack (operand_at c.args.types.operands)
-    c.args.types.depth ≡ type_of c.in-Top.t ∷ stack
-    (operand_at c.args.types.operands) c.in-Top.field-1 = pop-whole _ _ _
-    (popped-top _ _ _ c.pop.ensures c.in-Top.is) in
+    c.args.types.depth ≡ type_of c.in_ok-last.last.top ∷ stack
+    (operand_at c.args.types.operands) c.in_ok-last.last.below = pop-whole _ _ _
+    (popped-top _ _ _ c.pop.ensures c.in_ok-last.was) in
     rw (c.push.ensures, whole)

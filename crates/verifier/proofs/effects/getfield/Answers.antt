@@ -13,12 +13,13 @@ pub returns-then-not-named : goal.returns-then-not-named
 unfolding outcome_of going effect types_of ◌>>=◌ need
 returns-then-not-named c = rw (sym c.named.ensures ∙ c.if-not-named.true)
 
-pub returns-in_default : goal.returns-in_default
+pub returns-in_err-receiver : goal.returns-in_err-receiver
 unfolding outcome_of going effect types_of ◌>>=◌ need
-returns-in_default c =
+returns-in_err-receiver c =
     rw (
+      c.from_residual.ensures,
       sym c.named.ensures ∙ c.if-not-named.false,
-      popped-empty _ _ _ c.pop.ensures c.in_default.is,
+      popped-empty _ _ _ c.pop.ensures c.in_err-receiver.was,
     )
 
 pub returns : goal.returns
@@ -30,5 +31,5 @@ returns c =
       c.type_of_name.ensures.0,
       sym c.named.ensures
           ∙ c.if-not-named.false,
-      popped-top _ _ _ c.pop.ensures c.in-Top.is,
+      popped-top _ _ _ c.pop.ensures c.in_ok-receiver.was,
     )

@@ -15,13 +15,14 @@ pub returns-then-not-of_kind : goal.returns-then-not-of_kind
 unfolding outcome_of ending returning ◌>>=◌
 returns-then-not-of_kind c = rw (sym c.type_of_name.ensures.0, off-kind _ _ _ c.of_kind.ensures (ap not c.if-not-of_kind.true))
 
-pub returns-in_default : goal.returns-in_default
+pub returns-in_err-last : goal.returns-in_err-last
 unfolding outcome_of ending returning types_of ◌>>=◌
-returns-in_default c =
+returns-in_err-last c =
     rw (
+      c.from_residual.ensures,
       sym c.type_of_name.ensures.0,
       of-kind _ _ _ c.of_kind.ensures (ap not c.if-not-of_kind.false),
-      popped-empty _ _ _ c.pop.ensures c.in_default.is,
+      popped-empty _ _ _ c.pop.ensures c.in_err-last.was,
     )
 
 pub returns : goal.returns
@@ -30,6 +31,6 @@ returns c =
     rw (
       sym c.type_of_name.ensures.0,
       of-kind _ _ _ c.of_kind.ensures (ap not c.if-not-of_kind.false),
-      popped-top _ _ _ c.pop.ensures c.in-Top.is,
+      popped-top _ _ _ c.pop.ensures c.in_ok-last.was,
       c.meet_name.ensures,
     )

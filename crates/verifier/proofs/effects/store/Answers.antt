@@ -10,15 +10,15 @@ use mathlib.Core.Path.{ap}
 use mathlib.Core.Bool.{not}
 use Rattle.verifier.proofs.effects.store.Goals as goal
 
-pub returns-in_default : goal.returns-in_default
+pub returns-in_err-last : goal.returns-in_err-last
 unfolding outcome_of going effect types_of ◌>>=◌
-returns-in_default c = rw (popped-empty _ _ _ c.pop.ensures c.in_default.is)
+returns-in_err-last c = rw (c.from_residual.ensures, popped-empty _ _ _ c.pop.ensures c.in_err-last.was)
 
 pub returns-then-not-of_kind : goal.returns-then-not-of_kind
 unfolding outcome_of going effect types_of ◌>>=◌
 returns-then-not-of_kind c =
     rw (
-      popped-top _ _ _ c.pop.ensures c.in-Top.is,
+      popped-top _ _ _ c.pop.ensures c.in_ok-last.was,
       off-kind _ _ _ c.of_kind.ensures (ap not c.if-not-of_kind.true),
     )
 
@@ -26,7 +26,7 @@ pub returns-then-place-ge-LOCALS : goal.returns-then-place-ge-LOCALS
 unfolding outcome_of going effect types_of ◌>>=◌
 returns-then-place-ge-LOCALS c =
     rw (
-      popped-top _ _ _ c.pop.ensures c.in-Top.is,
+      popped-top _ _ _ c.pop.ensures c.in_ok-last.was,
       of-kind _ _ _ c.of_kind.ensures (ap not c.if-not-of_kind.false),
       ← c.from-place.ensures,
       local-past _ _ c.if-place-ge-LOCALS.true,
@@ -37,7 +37,7 @@ unfolding outcome_of going effect types_of ◌>>=◌
 returns c =
     rw (
       popped-top _ _ _ c.pop.ensures
-          c.in-Top.is,
+          c.in_ok-last.was,
       of-kind _ _ _ c.of_kind.ensures (ap not c.if-not-of_kind.false),
       ← c.from-place.ensures,
       local-at _ _ c.if-place-ge-LOCALS.false,

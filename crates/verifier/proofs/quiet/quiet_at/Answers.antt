@@ -23,10 +23,13 @@ overflow_add-q c = omega (arith, at-within _ _ _ _ c.decode.ensures _ c.in_ok-re
 pub returns-then-find_map-ne0 : goal.returns-then-find_map-ne0
 returns-then-find_map-ne0 c = loud-turn _ _ _ refl
 
+pub returns-in_err-effect : goal.returns-in_err-effect
+returns-in_err-effect c = loud-turn _ _ _ c.from_residual-in_err-effect.ensures
+
 pub returns : goal.returns
 returns c =
     let operands : length c.args.types.operands ≡ 16 = search rules in
     let locals : length c.args.types.locals ≡ 8 = search rules in
     let nowhere = targetless _ _ c.target_of.ensures (sym c.is_some.ensures ∙ c.if-is_some.false) in
     quiet-turn _ _ _ _ c.find_map.ensures c.if-find_map-ne0.false _ nowhere _ c.goes_on.ensures c.if-not-goes_on.false _ _ _ _
-    (turned-at _ _ _ _ _ _ _ c.decode.ensures _ c.in_ok-read.was _ c.effect_of.ensures _ refl) (c.quiet_of.ensures _ operands locals)
+    (turned-at _ _ _ _ _ _ _ c.decode.ensures _ c.in_ok-read.was _ c.in_ok-effect.ensures _ refl) (c.quiet_of.ensures _ operands locals)
