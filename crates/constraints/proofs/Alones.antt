@@ -15,8 +15,8 @@ use Rattle.definition.specs.Reasons.{precedes}
 use Rattle.laws.specs.Upward.{below_true, true_below}
 use Rattle.laws.specs.Earlier.{row_before}
 use Rattle.cells.specs.Optional.{optional}
-use Rattle.constraints.specs.Walks.{bad_over, ends_over, InRange, Sole}
-use Rattle.constraints.specs.Choosing.{one_row, pick, NoBetter, WalkFrom, Chosen, alone, considered_alone, Alone, BestOf}
+use Rattle.constraints.specs.Walks.{bad_over, ends_over}
+use Rattle.constraints.specs.Choosing.{one_row, pick, NoBetter, WalkFrom, alone, considered_alone, Alone, BestOf}
 use Rattle.constraints.proofs.Rows.{Order, less, equal, more, order, both_true}
 use Rattle.constraints.proofs.Choices.{pick-new, pick-still, pick-from}
 
@@ -134,9 +134,6 @@ module _ (froms tos labels classes : List ℕ) (cached : ℕ) (only : Bool) (sup
 -- Link after link
 
 module _ (froms tos labels classes : List ℕ) (cached : ℕ) (only : Bool) (sup : ℕ → Option ℕ) (count : ℕ) (old : Option (List ℕ)) where
-  pub alone-none : Alone froms tos labels classes cached only sup count 0 old old
-  alone-none = record { sound = λ ns h. inl h; all = λ d h. absurd (omega arith); still = λ ms b. b }
-
   pub alone-next : (e : ℕ) (mid new : Option (List ℕ)) → e < count → Alone froms tos labels classes cached only sup count e old mid
       → new ≡ considered_alone froms tos labels classes cached only sup e mid → Alone froms tos labels classes cached only sup count (e + 1) old new
   unfolding considered_alone
@@ -168,10 +165,6 @@ module _ (froms tos labels classes : List ℕ) (cached : ℕ) (only : Bool) (sup
           later d l b (less o) = pick-still mid (get_or labels e 0 ∷ []) (get_or labels d 0 ∷ []) (k.all d o b)
           later d l b (equal o) = rw o (pick-new mid (get_or labels e 0 ∷ []))
           later d l b (more o) = absurd (omega arith)
-
-  pub alone-end : (e : ℕ) (new : Option (List ℕ)) → e ≤ count → count ≤ e → Alone froms tos labels classes cached only sup count e old new
-      → Alone froms tos labels classes cached only sup count count old new
-  alone-end e new l h k = let z : e ≡ count = omega arith in subst (λ (x : ℕ). Alone froms tos labels classes cached only sup count x old new) z k
 
 -- The best of all
 
@@ -224,26 +217,4 @@ module _ (froms tos labels : List ℕ) (classes : List ℕ) (cached : ℕ) (sup 
         first ns (inl h) = second ns (a.sound ns h)
         first ns (inr r) = let w = alone-walk count false r.0 r.1 r.2 in inr (get_or froms r.0 0, w.0, subst (λ (z : List ℕ). WalkFrom froms tos labels count classes cached false sup (get_or froms r.0 0) z) r.3 w.1)
 
-    -- the same of two searches
-    pub chosen-best : Chosen froms tos labels turned classes cached true sup old mid → Chosen froms tos labels count classes cached false sup mid new
-        → BestOf froms tos labels turned count classes cached sup new
-    chosen-best a b = record { sound = λ ns h. first ns (b.sound ns h); ties = λ q ms l w. b.still ms (a.all q ms l w); all = b.all }
-      where
-        Found : List ℕ → Type 0
-        Found ns = ((q : ℕ) × (q < cached) × WalkFrom froms tos labels turned classes cached true sup q ns) ⊎ ((q : ℕ) × (q < cached) × WalkFrom froms tos labels count classes cached false sup q ns)
-
-        second : (ns : List ℕ) → (old ≡ some ns) ⊎ ((q : ℕ) × (q < cached) × WalkFrom froms tos labels turned classes cached true sup q ns) → Found ns
-        second ns (inl h) = absurd (none-ne-some ns (sym none_yet ∙ h))
-        second ns (inr w) = inl w
-
-        first : (ns : List ℕ) → (mid ≡ some ns) ⊎ ((q : ℕ) × (q < cached) × WalkFrom froms tos labels count classes cached false sup q ns) → Found ns
-        first ns (inl h) = second ns (a.sound ns h)
-        first ns (inr w) = inr w
-
 -- the first links of some
-
-pub fewer-range : {froms tos : List ℕ} {few many : ℕ} → few ≤ many → InRange froms tos many → InRange froms tos few
-fewer-range h r = record { few = omega (arith, r.few); from = λ e l. r.from e (omega arith); to = λ e l. r.to e (omega arith) }
-
-pub fewer-sole : (froms tos labels : List ℕ) (few many : ℕ) → few ≤ many → Sole froms tos labels many → Sole froms tos labels few
-fewer-sole froms tos labels few many h s d e l k = s d e (omega arith) (omega arith)

@@ -21,7 +21,7 @@ use Rattle.layout.specs.Places.{rows-length, rows_step, rows_none, rows_last, ro
 use Rattle.std.specs.Prelude as P
 use Rattle.constraints.specs.Nodes.{place_limit}
 use Rattle.constraints.specs.Walks.{Found, dist_of, way_of, Walk, Onward, Exact, Spread, Sole, trail, bad_in, ends_in, bad_over, ends_over, Zeroed, InRange}
-use Rattle.constraints.specs.Choosing.{held, pick, considered, considered_all, NoBetter, ChosenFor, WalkFrom, Chosen}
+use Rattle.constraints.specs.Choosing.{held, pick, considered, considered_all, NoBetter, ChosenFor, WalkFrom}
 use Rattle.constraints.specs.Search.{start_of, marked}
 use Rattle.constraints.specs.Upward.{Raised}
 use Rattle.constraints.proofs.Marking.{stamped-none}
@@ -330,10 +330,6 @@ module _ (tos labels dists ways : List ℕ) where
         go true r f = let k = eqb-true (get_or classes q 0) c r in here k (f (considered tos labels dists ways q o) (sym (all_here n q o k) ∙ e))
         go false r f = past (f o (sym (all_past n q o (eqb-false (get_or classes q 0) c r)) ∙ e))
 
-    -- the loop over them: those from q on are left, of n in all
-    pub left-start : (n : ℕ) (o : Option (List ℕ)) → considered_all tos labels dists ways classes c (n - 0) 0 o ≡ considered_all tos labels dists ways classes c n 0 o
-    left-start n o = let z : n - 0 ≡ n = omega arith in rw z
-
     pub left_here : (n q : ℕ) (o : Option (List ℕ)) → q < n → get_or classes q 0 ≡ c
         → considered_all tos labels dists ways classes c (n - q) q o ≡ considered_all tos labels dists ways classes c (n - (q + 1)) (q + 1) (considered tos labels dists ways q o)
     left_here n q o h e = let z : n - q ≡ suc (n - (q + 1)) = omega arith in rw (z, add-one q) (all_here (n - suc q) q o e)
@@ -538,6 +534,3 @@ module _ (froms tos labels : List ℕ) (count : ℕ) (classes : List ℕ) (cache
           (walk_same froms tos labels count (ends_over only sup classes cached class) (ends_in only aboves stamp classes cached class) (λ x. sym (same x)) ms q
           (subst (λ (x : ℕ). Walk froms tos labels count (ends_over only sup classes cached x) q ms) e w))
       go q ms h m k w (inr l) = f.still ms (s.all q ms h m l k w)
-
-  pub swept_all : {p : ℕ} {old new : Option (List ℕ)} → cached ≤ p → Swept p old new → Chosen froms tos labels count classes cached only sup old new
-  swept_all h s = record { sound = s.sound; all = λ q ms l w. s.all q ms l q (omega arith) refl w; still = s.still }

@@ -11,7 +11,7 @@ use lib.Seq.{get_or-set_same, get_or-set_other}
 use lib.Dec.{eqb}
 use borrow.Author.Tests.{eqb-true, eqb-false}
 use Rattle.definition.specs.Requests.{at}
-use Rattle.constraints.specs.Nodes.{request_of, Numbers, Kept, Numbered, AllNumbered, First, bucket_of, bucket_in}
+use Rattle.constraints.specs.Nodes.{request_of, bucket_of, bucket_in}
 use Rattle.constraints.specs.Joining.{Last, Joined}
 use Rattle.constraints.proofs.Rows.{Order, less, equal, more, order}
 
@@ -27,11 +27,6 @@ fill_more f P l i v h apart all new p k = go (eq-or-lt_of_le below)
     go (inl e) = rw (e, get_or-set_same l (f i) v 0 h) new
     go (inr m) = rw (get_or-set_other l (f i) (f p) v 0 (apart p m)) (all p m)
 
--- what lies below the place that is written stays
-pub kept_set : (old new : List ℕ) (from i v : ℕ) → from ≤ i → ((p : ℕ) → p < from → get_or new p 0 ≡ get_or old p 0)
-    → (p : ℕ) → p < from → get_or (set new i v) p 0 ≡ get_or old p 0
-kept_set old new from i v h k p l = get_or-set_other new i p v 0 (λ e. omega arith) ∙ k p l
-
 -- the number of a request
 pub number-at : (l n x y : ℕ) → x ≡ l → y ≡ n → y < 65536 → request_of (x * 65536 + y) ≡ at l n
 unfolding request_of
@@ -39,26 +34,6 @@ number-at l n x y p q h =
     let high : (x * 65536 + y) / 65536 ≡ l = omega arith in
     let low : (x * 65536 + y) % 65536 ≡ n = omega arith in
     λ i. record { loader = high i; name = low i }
-
--- numbers stay where only later places are written
-numbers-on : (t : List ℕ) (loader name count : ℕ) (old new : List ℕ) (from k : ℕ) → from + count ≤ k → Kept old new k
-    → Numbers t loader name count old from
-    → Numbers t loader name count new from
-numbers-on t loader name count old new from k h kept f i l = ap (λ (x : ℕ). request_of x) (kept (from + i) (omega arith)) ∙ f i l
-
--- all places, each block behind the one before
-pub all-put : {cache ties subtypes : List ℕ} {n tied noted : ℕ} {a b c d e f : List ℕ} → Numbered cache 0 1 n a b 0
-    → Numbered subtypes 0 1 noted b c n → Numbered subtypes 0 2 noted c d (n + noted) → Numbered ties 0 2 tied d e (n + noted + noted)
-    → Numbered ties 1 2 tied e f (n + noted + noted + tied) → AllNumbered cache n ties tied subtypes noted f
-all-put {cache} {ties} {subtypes} {n} {tied} {noted} {a} {b} {c} {d} {e} {f} p q r s t = record {
-  cache_put = numbers-on cache 0 1 n b f 0 n (omega arith)
-      (λ i l. t.kept i (omega arith) ∙ s.kept i (omega arith) ∙ r.kept i (omega arith) ∙ q.kept i l) p.put;
-  low_put = numbers-on subtypes 0 1 noted c f n (n + noted) (omega arith)
-      (λ i l. t.kept i (omega arith) ∙ s.kept i (omega arith) ∙ r.kept i l) q.put;
-  high_put = numbers-on subtypes 0 2 noted d f (n + noted) (n + noted + noted) (omega arith) (λ i l. t.kept i (omega arith) ∙ s.kept i l) r.put;
-  one_put = numbers-on ties 0 2 tied e f (n + noted + noted) (n + noted + noted + tied) (omega arith) t.kept s.put;
-  two_put = t.put;
-}
 
 -- Lists
 
@@ -136,9 +111,3 @@ module _ (numbers : List ℕ) (p : ℕ) where
       other e h k z (less r) = l.none e h r (same-bucket e z ∙ sym (s.here q i))
       other e h k z (equal r) = n (rw r at z)
       other e h k z (more r) = s.none e (omega arith) k z
-
-  pub node-found : {f q : ℕ} → Following f → f ≡ suc q → get_or numbers q 0 ≡ get_or numbers p 0 → {r : ℕ} → First numbers q r → First numbers p r
-  node-found s i e f = record { low = omega (arith, f.low, s.high); same = f.same ∙ e; none = λ j h z. f.none j h (z ∙ sym e) }
-
-  pub node-own : Following 0 → First numbers p p
-  node-own s = record { low = omega arith; same = refl; none = λ j h z. s.none j (omega arith) h z }

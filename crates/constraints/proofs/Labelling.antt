@@ -10,7 +10,6 @@ use lib.Dec.{eqb}
 use borrow.Author.Tests.{eqb-true, eqb-false}
 use Rattle.constraints.specs.Nodes.{place_limit, NodesOf}
 use Rattle.constraints.specs.Groups.{label_from, Rooted}
-use Rattle.constraints.proofs.Rows.{Order, less, equal, more, order}
 use Rattle.constraints.proofs.Named.{first-unique}
 
 -- one row more
@@ -58,16 +57,6 @@ label-before nodes labels gs ones tied (suc j) n one two v h few is p q l m all 
 pub label-none : (nodes labels gs : List ℕ) (ones tied n : ℕ) → ((x : ℕ) → x < n → get_or labels x 0 ≡ x) → (x : ℕ) → x < n → get_or labels x 0 ≡ label_from nodes ones tied gs (tied - tied) tied x
 unfolding label_from
 label-none nodes labels gs ones tied n h x l = let e : tied - tied ≡ 0 = omega arith in rw e (h x l)
-
--- where the labels below place p are those of their nodes, and the others as they were, the label of p's node is as it was
-pub label_kept : (nodes labels old : List ℕ) (p : ℕ) → get_or nodes p 0 ≤ p → get_or nodes (get_or nodes p 0) 0 ≡ get_or nodes p 0 → ((q : ℕ) → q < p → get_or labels q 0 ≡ get_or old (get_or nodes q 0) 0)
-    → ((q : ℕ) → p ≤ q → get_or labels q 0 ≡ get_or old q 0) → get_or labels (get_or nodes p 0) 0 ≡ get_or old (get_or nodes p 0) 0
-label_kept nodes labels old p low top below above = go (order (get_or nodes p 0) p)
-  where
-    go : Order (get_or nodes p 0) p → get_or labels (get_or nodes p 0) 0 ≡ get_or old (get_or nodes p 0) 0
-    go (less h) = below (get_or nodes p 0) h ∙ ap (λ (x : ℕ). get_or old x 0) top
-    go (equal h) = above (get_or nodes p 0) (omega arith)
-    go (more h) = absurd (omega arith)
 
 -- the first places with a label are roots
 pub rooted-by : (labels groups : List ℕ) (n m : ℕ) → m ≤ n → NodesOf labels n groups → Rooted groups m

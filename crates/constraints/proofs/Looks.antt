@@ -2,13 +2,13 @@
 -- one; the first of a group beside what it leads to.
 use mathlib.Core.Path.{◌≡◌, refl, ap}
 use mathlib.Core.Option.{Option}
-use mathlib.Core.List.{List, []}
+use mathlib.Core.List.{List}
 use mathlib.Core.Logic.{◌⊎◌, inl, inr}
 use Prim.Native.Nat.{ℕ, zero, suc, ◌+◌, ◌<◌, ◌≤◌}
 use native.Mathlib.Omega.{arith}
 use lib.ListN.{length, get_or, replicate}
 use Rattle.constraints.specs.Groups.{Rooted}
-use Rattle.constraints.specs.Search.{start_of, Marked, Searched}
+use Rattle.constraints.specs.Search.{start_of, Marked}
 use Rattle.constraints.specs.Upward.{Raised}
 use Rattle.constraints.specs.Pairs.{Meets, Everyone, Members, Followed}
 use Rattle.constraints.specs.Looking.{lead_of, Links, Marks, Tables, Reached, Looked}
@@ -42,13 +42,7 @@ who_of Followed = 2
 everyone-followed : Everyone ≡ Followed → ⊥
 everyone-followed q = let e : ◌≡◌ {A = ℕ} 0 2 = ap who_of q in omega arith
 
-members-followed : Members ≡ Followed → ⊥
-members-followed q = let e : ◌≡◌ {A = ℕ} 1 2 = ap who_of q in omega arith
-
 -- tables of zeros, before the first turn, with any queue
-
-pub tables-none : {noted : ℕ} (queue : List ℕ) → noted ≡ 0 → Tables noted 0 [] [] queue []
-tables-none queue z = record { outs_most = λ x. omega arith; ins_most = λ x. omega arith; full = inl z }
 
 pub tables-zeros : (noted : ℕ) (queue : List ℕ) → length queue ≡ 1280 → Tables noted 0 (replicate 1280 0) (replicate 1280 0) queue (replicate 256 0)
 tables-zeros noted queue long = record {
@@ -143,59 +137,3 @@ module _ (sup : ℕ → Option ℕ) (groups classes : List ℕ) (n noted a : ℕ
 
     no-in : (y : ℕ) → Marked (suc turn) ins y → ⊥
     no-in y m = omega (arith, t.ins_most y)
-
-    -- that of ties
-    pub later-ties : turn ≡ 1 → Looked sup groups classes n noted turn a outs ins queue aboves (record { from = 0; end = n; who = Members })
-    later-ties z = record {
-      tables = tables_more (omega arith) t;
-      begin = omega arith;
-      low = omega arith;
-      seen = λ q. absurd (members-followed q);
-      out_sound = λ y m. absurd (no-out y m);
-      in_sound = λ y m. absurd (no-in y m);
-      raised = λ y m. absurd (no-out y m);
-      first = λ q. absurd (omega arith);
-      ties = λ _. record { from = refl; end = refl; who = refl };
-      ahead = λ h. absurd (omega arith);
-    }
-
-    -- of a request from which nothing is to be followed
-    pub later-none : 1 < turn → (get_or groups a 0 ≡ a → noted ≡ 0) → Looked sup groups classes n noted turn a outs ins queue aboves (record { from = 0; end = 0; who = Everyone })
-    later-none later z = record {
-      tables = tables_more (omega arith) t;
-      begin = omega arith;
-      low = omega arith;
-      seen = λ q. absurd (everyone-followed q);
-      out_sound = λ y m. absurd (no-out y m);
-      in_sound = λ y m. absurd (no-in y m);
-      raised = λ y m. absurd (no-out y m);
-      first = λ q. absurd (omega arith);
-      ties = λ q. absurd (omega arith);
-      ahead = λ _ o. inl (z o);
-    }
-
-    -- of the first of a group, from which chains were followed
-    pub later-linked : {outs' queue' aboves' : List ℕ} → 1 < turn → n ≤ 1280 → length ins ≡ 1280 → get_or groups a 0 ≡ a
-        → Searched groups n n (n + noted) noted (suc turn) a outs' → Raised sup (get_or classes a 0) (suc turn) aboves' → length queue' ≡ 1280
-        → Looked sup groups classes n noted turn a outs' ins queue' aboves' (record { from = 0; end = n; who = Followed })
-    later-linked later room long o s r q = record {
-      tables = record {
-        outs_most = s.stamped.most;
-        ins_most = λ x. omega (arith, t.ins_most x);
-        full = inr (record {
-          outs_are = s.stamped;
-          ins_are = record { long = long; most = λ x. omega (arith, t.ins_most x) };
-          queue_long = q;
-          aboves_are = r.stamped;
-        });
-      };
-      begin = omega arith;
-      low = omega arith;
-      seen = λ _. omega (arith, s.stamped.long);
-      out_sound = λ y m. rw o (s.sound y m);
-      in_sound = λ y m. absurd (no-in y m);
-      raised = λ y m. r;
-      first = λ z. absurd (omega arith);
-      ties = λ z. absurd (omega arith);
-      ahead = λ _ _. inr (record { from = refl; end = refl; who = refl; searched = s });
-    }

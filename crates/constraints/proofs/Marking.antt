@@ -50,14 +50,6 @@ stamped-none size stamp = record { long = length-replicate {A = ℕ} size 0; mos
 pub stamped-more : {size a b : ℕ} {marks : List ℕ} → a ≤ b → Stamped size a marks → Stamped size b marks
 stamped-more h s = record { long = s.long; most = λ x. omega (arith, s.most x) }
 
--- a marked place is one of the table
-pub mark-low : (stamp : ℕ) (marks : List ℕ) (x : ℕ) → 0 < stamp → Marked stamp marks x → x < length marks
-mark-low stamp marks x h m = go (ltb x (length marks)) refl
-  where
-    go : (t : Bool) → ltb x (length marks) ≡ t → x < length marks
-    go true e = ltb-true x (length marks) e
-    go false e = let z : 0 ≡ stamp = sym (get_or-eq_default marks 0 (ltb-false x (length marks) e)) ∙ m in absurd (omega arith)
-
 -- Counting
 
 module _ (stamp : ℕ) where

@@ -6,7 +6,7 @@ use mathlib.Core.Bool.{Bool, true, false, false≢true}
 use mathlib.Core.Option.{Option}
 use mathlib.Core.List.{List, []}
 use mathlib.Core.Logic.{◌⊎◌, inl, inr}
-use Prim.Native.Nat.{ℕ, zero, suc, ◌+◌, ◌-◌, ◌<◌, ◌≤◌}
+use Prim.Native.Nat.{ℕ, zero, suc, ◌+◌, ◌<◌, ◌≤◌}
 use native.Mathlib.Omega.{arith}
 use native.Mathlib.Numerals.{add-one}
 use lib.ListN.{get_or}
@@ -23,8 +23,8 @@ use Rattle.constraints.specs.Groups.{Rooted}
 use Rattle.constraints.specs.Search.{start_of, links_of, leads_on, Led, Link, Marked}
 use Rattle.constraints.specs.Upward.{is_above}
 use Rattle.std.specs.Prelude as P
-use Rattle.constraints.specs.Pairs.{Found, pair, reach, Meets, Followed, ToMeet, pair_is, pair_on, agree_on, out_marked, in_marked, PairFine, NextMet, Judged, fine, tied, out, into, Fresh, Finding, agree, apart}
-use Rattle.constraints.specs.Looking.{Span, request_at, lead_of, NextTurn, FirstTurn, Links, Tables, LookedFirst, LookedTies, LookedAhead, Looked, PairIn, all_fine, breaks}
+use Rattle.constraints.specs.Pairs.{Found, pair, reach, Meets, ToMeet, pair_is, pair_on, agree_on, out_marked, in_marked, PairFine, NextMet, Judged, fine, tied, out, into, Fresh, Finding, agree, apart}
+use Rattle.constraints.specs.Looking.{Span, request_at, lead_of, NextTurn, Links, Tables, LookedFirst, LookedTies, LookedAhead, Looked, PairIn, all_fine, breaks}
 use Rattle.constraints.proofs.Rows.{Order, less, equal, more, order, in_rows, rows_in}
 use Rattle.constraints.proofs.Searching.{led-holds}
 use Rattle.constraints.proofs.Looks.{tables_more}
@@ -143,32 +143,6 @@ turn-fits {turn = zero} new f h e d = rw e (f refl)
 turn-fits {turn = suc zero} new f h e d = absurd (d refl)
 turn-fits {turn = suc (suc m)} new f h e d = rw e (omega arith)
 
--- one place more that isn't marked
-pub unmarked-on : (marks : List ℕ) {stamp from : ℕ} (k m : ℕ) → m ≡ suc k → ((p : ℕ) → p < k → from ≤ p → Marked stamp marks p → ⊥) → (Marked stamp marks k → ⊥)
-    → (p : ℕ) → p < m → from ≤ p → Marked stamp marks p → ⊥
-unmarked-on marks {stamp} {from} k m e before here p h l q = go (order p k)
-  where
-    go : Order p k → ⊥
-    go (less o) = before p o l q
-    go (equal o) = here (rw o at q)
-    go (more o) = omega arith
-
--- what is found is the place that is said
-pub found-at : {b x from end : ℕ} → P.Some b ≡ P.Some x → from ≤ b → b < end → (from ≤ x) × (x < end)
-found-at {b} {x} e l h = let q : b ≡ x = cc in (omega arith, omega arith)
-
--- no place that was passed is marked, and none from there on to the next
-pub met-after : {groups marks : List ℕ} {stamp from b end : ℕ} {r : P.Option ℕ} → from ≤ b → ((p : ℕ) → p < b → from ≤ p → Marked stamp marks p → ⊥)
-    → NextMet groups marks stamp Followed b end r → NextMet groups marks stamp Followed from end r
-met-after {groups} {marks} {stamp} {from} {b} {end} {r} h before next = record {
-  fits = λ x e. (omega (arith, (next.fits x e).0), (next.fits x e).1);
-  none = λ p l k m. go p l k m (ltb p b) refl;
-}
-  where
-    go : (p : ℕ) → p < reach end r → from ≤ p → Marked stamp marks p → (t : Bool) → ltb p b ≡ t → ⊥
-    go p l k m true e = before p (ltb-true p b e) k m
-    go p l k m false e = next.none p l (ltb-false p b e) m
-
 -- what was looked at is fine up to the next place that is to be looked at
 pub right-on : (F : ℕ → Type 0) {groups marks : List ℕ} {stamp from b end : ℕ} {r : P.Option ℕ} {who : Meets} → ((p : ℕ) → p < b → from ≤ p → ToMeet who groups marks stamp p → F p)
     → F b → NextMet groups marks stamp who (b + 1) end r → (p : ℕ) → p < reach end r → from ≤ p → ToMeet who groups marks stamp p → F p
@@ -178,15 +152,6 @@ right-on F {b = b} before here next p h l k = go (order p b)
     go (less q) = before p q l k
     go (equal q) = rw q here
     go (more q) = absurd (next.none p h (omega arith) k)
-
--- each next place that is to be looked at is a later one
-pub reach-falls : {groups marks : List ℕ} {stamp b end : ℕ} {who : Meets} {last r : P.Option ℕ} → last ≡ P.Some b → b < end → NextMet groups marks stamp who (b + 1) end r
-    → end - reach end r < end - reach end last
-reach-falls {b = b} {end} {r = r} e h next = rw e (omega (arith, later r refl))
-  where
-    later : (o : P.Option ℕ) → r ≡ o → b < reach end o
-    later P.None q = h
-    later (P.Some x) q = omega (arith, next.fits x q)
 
 -- what a turn's look has found
 
@@ -395,23 +360,6 @@ module _ (sup : ℕ → Option ℕ) (falls : Falls sup) (groups classes : List �
     -- One turn after the other
 
     module _ {heads nexts : List ℕ} (room : n ≤ 1280) (links : Links groups n noted heads nexts) (new : ℕ) where
-      pub tested-start : {r : ℕ} {outs ins queue aboves : List ℕ} → FirstTurn n new r → Tables noted 0 outs ins queue aboves
-          → Tested sup groups classes n noted new r outs ins queue aboves
-      tested-start (inl (e, h)) t = record {
-        is_new = λ _. h;
-        tables = tables_more (omega arith) t;
-        fresh = λ k. absurd (omega arith);
-        tied = λ k. absurd (omega arith);
-        done = λ m k. absurd (omega arith);
-      }
-      tested-start (inr (e, h)) t = record {
-        is_new = λ z. absurd (omega arith);
-        tables = tables_more (omega arith) t;
-        fresh = λ _ k. absurd (omega arith);
-        tied = λ k. absurd (omega arith);
-        done = λ m k. absurd (omega arith);
-      }
-
       -- what the newcomer's turn, that of ties and a request's show
       turn-fresh : {turn a : ℕ} {outs ins queue aboves : List ℕ} {span : Span} → a ≡ request_at turn new → (0 < turn → new < n → Fresh sup groups classes n noted new)
           → (looked : Looked sup groups classes n noted turn a outs ins queue aboves span) → AllRight looked → new < n → Fresh sup groups classes n noted new

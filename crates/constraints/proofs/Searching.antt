@@ -17,12 +17,9 @@ use Rattle.constraints.specs.Looking.{Reached}
 use Rattle.constraints.specs.Shared.{edge}
 use Rattle.constraints.proofs.Rows.{Order, less, equal, more, order, in_rows, rows_in}
 use Rattle.constraints.proofs.Edges.{edge_at}
-use Rattle.constraints.proofs.Marking.{new-mark, set-mark, keep-mark, stamped-set, stamped-more, mark-low, marked-le, marked-set}
+use Rattle.constraints.proofs.Marking.{new-mark, set-mark, keep-mark, stamped-set, stamped-more, marked-le, marked-set}
 
 -- Visiting a group
-
-pub grown-same : {stamp : ℕ} {marks queue : List ℕ} {tail : ℕ} → Grown stamp marks queue tail marks queue tail
-grown-same = record { more = omega arith; still = λ x m. m; place = λ p h. refl }
 
 grown-on : {stamp : ℕ} {m q m' q' m'' q'' : List ℕ} {t t' t'' : ℕ} → Grown stamp m q t m' q' t' → Grown stamp m' q' t' m'' q'' t'' → Grown stamp m q t m'' q'' t''
 grown-on a b = record {
@@ -35,9 +32,6 @@ pub tail-low : {stop stamp : ℕ} {marks queue : List ℕ} {tail : ℕ} → Queu
 tail-low {stop} {stamp} {marks} s = omega (arith, marked-le stamp marks, s.few, s.stamped.long)
 
 module _ (stop stamp x : ℕ) (marks queue : List ℕ) (tail : ℕ) (s : Queued stop stamp marks queue tail) where
-  pub visit-old : Marked stamp marks x → Visited stop stamp x marks queue tail marks queue tail
-  visit-old m = record { queued = s; grown = grown-same; it = m; only = λ y k. inl k }
-
   module _ (h : x < 1280) (n : Marked stamp marks x → ⊥) where
     long : x < length marks
     long = omega (arith, s.stamped.long)
@@ -95,24 +89,10 @@ module _ (stop stamp x : ℕ) (marks queue : List ℕ) (tail : ℕ) (s : Queued 
         two y c (inl m) = let r = s.is_queued y c m in (r.0, omega (arith, r.1), queue-at r.0 r.1 ∙ r.2)
         two y c (inr e) = (tail, omega arith, queue-end ∙ sym e)
 
--- what is queued is a group
-pub queue-low : {stop stamp : ℕ} {marks queue : List ℕ} {tail : ℕ} → 0 < stamp → Queued stop stamp marks queue tail → (p : ℕ) → p < tail
-    → get_or queue p 0 < 1280
-queue-low {stop} {stamp} {marks} {queue} h s p l = rw s.stamped.long at (mark-low stamp marks (get_or queue p 0) h (s.is_marked p l))
-
 -- nothing is marked with a new stamp yet
 module _ (stamp : ℕ) (marks queue : List ℕ) (new : 0 < stamp) (s : Stamped 1280 (stamp - 1) marks) (long : length queue ≡ 1280) where
   pub none-marked : (x : ℕ) → Marked stamp marks x → ⊥
   none-marked x m = omega (arith, s.most x)
-
-  pub queued-none : (stop : ℕ) → Queued stop stamp marks queue 0
-  queued-none stop = record {
-    stamped = stamped-more (omega arith) s;
-    queue_long = long;
-    few = omega arith;
-    is_marked = λ p l. absurd (omega arith);
-    is_queued = λ x c m. absurd (none-marked x m);
-  }
 
 -- Visiting the ends of a group's links, the last link first
 
@@ -127,17 +107,6 @@ pub record Expanding (groups : List ℕ) (stop from to noted stamp x f : ℕ) (m
   pub only : (y : ℕ) → Marked stamp marks' y → Marked stamp marks y ⊎ Link groups from to noted x y
 
 module _ (groups : List ℕ) (stop from to noted stamp x : ℕ) where
-  pub expanding-none : {f : ℕ} {marks queue : List ℕ} {tail : ℕ} → Last (start_of groups from) x noted f → Queued stop stamp marks queue tail
-      → Expanding groups stop from to noted stamp x f marks queue tail marks queue tail
-  expanding-none {f} last s = record {
-    high = last.high;
-    here = last.here;
-    queued = s;
-    grown = grown-same;
-    all = λ y l h. absurd (last.none l.number h l.fits l.start);
-    only = λ y m. inl m;
-  }
-
   pub expanding-one : {f e g : ℕ} {m q m' q' m'' q'' : List ℕ} {t t' t'' : ℕ} → f ≡ suc e → Last (start_of groups from) (start_of groups from e) e g
       → Expanding groups stop from to noted stamp x f m q t m' q' t' → Visited stop stamp (start_of groups to e) m' q' t' m'' q'' t''
       → Expanding groups stop from to noted stamp x g m q t m'' q'' t''

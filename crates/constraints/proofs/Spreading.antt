@@ -8,7 +8,7 @@ use mathlib.Core.List.{List, [], ◌∷◌, Memᴰ, ◌++◌}
 use mathlib.Core.Logic.{◌⊎◌, inl, inr}
 use Prim.Native.Nat.{ℕ, zero, suc, ◌+◌, ◌<◌, ◌≤◌}
 use native.Mathlib.Omega.{arith}
-use lib.ListN.{length, get_or, set, length-set, replicate, length-replicate}
+use lib.ListN.{length, get_or, set, length-set}
 use lib.Seq.{get_or-set_same, get_or-set_other}
 use lib.Dec.{eqb, ltb}
 use borrow.Author.Tests.{eqb-true, eqb-false, ltb-true, lt-ltb, eq-eqb, ne_eqb}
@@ -626,9 +626,6 @@ module _ (froms tos labels : List ℕ) (count layer node : ℕ) (s₀ : Found) w
   pub looking-sized : {f : ℕ} (s : Found) → 0 < layer → ((e : ℕ) → e < count → get_or froms e 0 < place_limit) → Sized s₀ → Looking f s → Sized s
   looking-sized s l h z k = rw k.is (looks-sized froms labels layer k.links s₀ l (λ e m. h e (k.fit e m)) z).0
 
-  pub looking-all : {f : ℕ} (s : Found) → f ≤ 0 → Looking f s → (es : List ℕ) × Those count (λ e. get_or tos e 0 ≡ node) es × (s ≡ looks froms labels layer es s₀)
-  looking-all s n k = (k.links, record { fit = k.fit; only = k.only; all = λ e h q. k.all e (omega (arith, n)) h q }, k.is)
-
 -- The nodes of one layer, looked back from one after another: those before place i were
 
 module _ (froms tos labels : List ℕ) (count layer low : ℕ) (s₀ : Found) where
@@ -683,18 +680,6 @@ module _ (froms tos labels : List ℕ) (count layer low : ℕ) (s₀ : Found) wh
 
     pub backward-tail : s₀.tail ≤ s.tail
     backward-tail = omega (arith, both.1.more, ap (λ (x : Found). x.tail) b.is)
-
-  pub backward-all : (high i : ℕ) (s : Found) → i ≤ high → high ≤ i → Backward i s
-      → (es : List ℕ) × Those count (λ e. (j : ℕ) × (low ≤ j) × (j < high) × (get_or tos e 0 ≡ node_at s₀ j)) es × (s ≡ looks froms labels layer es s₀)
-  backward-all high i s l h b = (
-    b.links,
-    record {
-      fit = b.those.fit;
-      only = λ e m. (let r = b.those.only e m in (r.0, r.1, omega (arith, r.2), r.3));
-      all = λ e k q. b.those.all e k (q.0, q.1, omega (arith, q.2), q.3);
-    },
-    b.is,
-  )
 
 -- The search, layer after layer: n of them, the last of which is queued from `low` on
 
@@ -850,11 +835,6 @@ module _ (only : Bool) (aboves : List ℕ) (stamp : ℕ) (classes : List ℕ) (c
       go : (t : Bool) → bad_in only aboves stamp c (get_or classes q 0) ≡ t → Seeded (ends_to (q + 1)) (seed_one t q (found dists ways queue tail))
       go true b = seeded-one q (found dists ways queue tail) h b (e ways l)
       go false b = seeded-skip q (found dists ways queue tail) b (e ways l)
-
-  -- there is room for what is queued next
-  pub seeds-room : (n : ℕ) (dists queue : List ℕ) (tail : ℕ) → Seeds n dists queue tail → (length dists ≡ place_limit) × (length queue ≡ place_limit) × (tail ≤ place_limit)
-  seeds-room n dists queue tail e =
-      let r = (e (replicate {A = ℕ} place_limit 0) (length-replicate {A = ℕ} place_limit 0)).sized.room in (r.dists_long, r.queue_long, omega (arith, r.few))
 
   pub seeds-end : (n q : ℕ) (dists queue : List ℕ) (tail : ℕ) → q ≤ n → n ≤ q → Seeds q dists queue tail → Seeds n dists queue tail
   seeds-end n q dists queue tail l h e = let z : q ≡ n = omega arith in rw (sym z) e

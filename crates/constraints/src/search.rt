@@ -48,12 +48,12 @@ fn expand(
     ensures { Expanded groups.now stop from to noted stamp group marks.old queue.old tail marks.new queue.new result }
 {
     let mut queued = tail;
-    let mut follow = heads[group] as usize;
+    let mut follow = usize::from(heads[group]);
     while 0 < follow {
         let e = follow - 1;
         let end = place(groups, to + e);
         queued = visit(end, stop, stamp, marks, queue, queued);
-        follow = nexts[e] as usize;
+        follow = usize::from(nexts[e]);
     }
     queued
 }
@@ -80,7 +80,7 @@ pub(crate) fn search(
     );
     let mut done = 0;
     while done < tail {
-        let group = queue[done] as usize;
+        let group = usize::from(queue[done]);
         tail = expand(
             groups, stop, from, to, noted, heads, nexts, group, stamp, marks, queue, tail,
         );

@@ -1,6 +1,6 @@
 -- What is answered for rows: none, too many for the table, rows that don't fit, and their groups.
 use mathlib.Core.Path.{◌≡◌, refl, sym, ap, subst, ◌∙◌}
-use mathlib.Core.Bool.{Bool, true, false, ◌&&◌, true≢false, false≢true}
+use mathlib.Core.Bool.{Bool, true, false, ◌&&◌, false≢true}
 use mathlib.Core.List.{List, [], ◌∷◌, ◌++◌}
 use mathlib.Core.Logic.{◌⊎◌, inl, inr}
 use Prim.Native.Nat.{ℕ, zero, suc, ◌+◌, ◌-◌, ◌*◌, ◌<◌, ◌≤◌}
@@ -8,7 +8,7 @@ use native.Mathlib.Nat.{eq-or-lt_of_le}
 use native.Mathlib.Omega.{arith}
 use lib.ListN.{length, get_or, drop, replicate}
 use lib.Dec.{leb}
-use borrow.Author.Tests.{lt-leb, le-leb}
+use borrow.Author.Tests.{le-leb}
 use Rattle.std.proofs.lemmas.List.{drop-replicate}
 use Rattle.std.proofs.lemmas.Grind.{common_steps}
 use Rattle.definition.specs.Lists.{rows, all}
@@ -18,7 +18,7 @@ use Rattle.layout.specs.Places.{rows-cong}
 use Rattle.definition.specs.Groups.{groups_of}
 use Rattle.definition.specs.Broken.{tie_fits}
 use Rattle.groups.specs.Claims.{Loaders}
-use Rattle.groups.specs.Lowest.{up_to, cells_of, ties_at, RowGroups}
+use Rattle.groups.specs.Lowest.{up_to, ties_at, RowGroups}
 use Rattle.groups.proofs.Claiming.{fits-loaders}
 
 -- a table with no more than zeros behind the cells of another has the cells of that
@@ -41,15 +41,6 @@ all-at f g (suc k) i j e l h = go (f (g i)) refl e (eq-or-lt_of_le l) (λ q m. a
 pub all-loaders : (ties : List ℕ) (n : ℕ) → all tie_fits (ties_at ties n) ≡ true → (i : ℕ) → i < n → Loaders ties i
 all-loaders ties n e i h = fits-loaders ties i (all-at tie_fits (tie_at ties) n 0 i e (omega arith) (omega arith))
 
--- for n rows of a table that has them
-
-module _ (ties old : List ℕ) (n : ℕ) (h : n ≤ length old) where
-  pub answer-unfit : all tie_fits (ties_at ties n) ≡ false → RowGroups ties n old false old
-  answer-unfit e = record { fits = rw (le-leb n (length old) h, e) refl; kept = λ q. refl; groups = λ q. absurd (false≢true q) }
-
-  pub answer-groups : {new : List ℕ} → all tie_fits (ties_at ties n) ≡ true → cells_of new n ≡ groups_of (ties_at ties n) (up_to n) → RowGroups ties n old true new
-  answer-groups e g = record { fits = rw (le-leb n (length old) h, e) refl; kept = λ q. absurd (true≢false q); groups = λ q. g }
-
 -- for as many rows as are counted
 
 module _ (ties old : List ℕ) {m n : ℕ} (is : m ≡ n) where
@@ -62,9 +53,6 @@ module _ (ties old : List ℕ) {m n : ℕ} (is : m ≡ n) where
 
   pub answer-none : m ≡ 0 → RowGroups ties n old true old
   answer-none e = as-counted (no_rows m e)
-
-  pub answer-short : length old < m → RowGroups ties n old false old
-  answer-short h = as-counted (record { fits = rw (lt-leb m (length old) h) refl; kept = λ q. refl; groups = λ q. absurd (false≢true q) })
 
   -- those of a table with the same cells
   -- a table with the cells of the ties, and 0 where they have none

@@ -10,7 +10,7 @@ use lib.ListN.{length, get_or, set, length-set}
 use lib.Seq.{get_or-set_same, get_or-set_other}
 use lib.Dec.{eqb, ltb}
 use borrow.Author.Tests.{eqb-true, eqb-false, eq-eqb, ltb-true, ltb-false}
-use Rattle.groups.specs.Roots.{Root, top, up, SameRoot, United, Joined}
+use Rattle.groups.specs.Roots.{Root, top, up, SameRoot, United}
 
 -- The root of a place
 
@@ -50,9 +50,6 @@ root-within ups (suc k) p h = go (ltb (get_or ups p 0) p) refl (λ l. root-withi
     go : (t : Bool) → ltb (get_or ups p 0) p ≡ t → (get_or ups p 0 < p → (r : ℕ) × Root ups (get_or ups p 0) r) → (r : ℕ) × Root ups p r
     go true e f = let l = ltb-true (get_or ups p 0) p e in let s = f l in (s.0, up {p = p} l s.1)
     go false e f = (p, top {p = p} (ltb-false (get_or ups p 0) p e) refl)
-
-pub root-of : (ups : List ℕ) (p : ℕ) → (r : ℕ) × Root ups p r
-root-of ups p = root-within ups (suc p) p (omega arith)
 
 -- Two roots made one
 
@@ -167,11 +164,3 @@ module _ {ups ups' : List ℕ} {p q : ℕ} (u : United ups p q ups') (fits_one :
       go : (t : Bool) → eqb a u.high ≡ t → get_or (set ups u.high u.low) a 0 < a → R a (get_or (set ups u.high u.low) a 0)
       go true e = rw (eqb-true a u.high e, get_or-set_same ups u.high u.low 0 ends.2) (λ l. link u.roots)
       go false e = rw (get_or-set_other ups u.high a u.low 0 (eqb-false a u.high e)) (λ l. old a h l)
-
--- the root that is answered lies no higher
-pub joined-low : {ups ups' : List ℕ} {p q r : ℕ} → Joined ups p q ups' r → r ≤ p
-joined-low {ups} {ups'} {p} {q} {r} (u, e) = go u.roots
-  where
-    go : (Root ups p u.low × Root ups q u.high) ⊎ (Root ups p u.high × Root ups q u.low) → r ≤ p
-    go (inl s) = omega (arith, e, root-low s.0)
-    go (inr s) = omega (arith, e, u.order, root-low s.0)

@@ -6,24 +6,24 @@ use Rattle.definition.specs.declared.Instruction.TheVariants.{AconstNull, Sipush
 use Rattle.definition.specs.declared.Kind.{Kind}
 use Rattle.definition.specs.declared.Condition.{Condition}
 use mathlib.Core.Path.{◌≡◌, refl, sym, ap, ◌∙◌}
-use mathlib.Core.Bool.{Bool, true, false, false≢true, not, ◌&&◌, ◌||◌}
+use mathlib.Core.Bool.{Bool, true, false, false≢true, not, ◌&&◌}
 use mathlib.Core.Logic.{◌≢◌}
 use mathlib.Core.Option.{Option, none, some}
 use mathlib.Core.List.{List, [], ◌∷◌, ◌++◌}
-use Prim.Native.Nat.{ℕ, zero, suc, ◌+◌, ◌-◌, ◌*◌, ◌≤◌, ◌<◌}
+use Prim.Native.Nat.{ℕ, ◌+◌, ◌-◌, ◌*◌, ◌≤◌, ◌<◌}
 use native.Mathlib.Omega.{arith}
 use native.Mathlib.Numerals.{add-one}
 use lib.ListN.{length, get_or, set, replicate, length-set, length-replicate, get_or-replicate}
 use lib.Seq.{get_or-set_same, get_or-set_other}
 use lib.Dec.{eqb, leb}
 use borrow.Author.Tests.{eq-eqb, ne_eqb, eqb-true, eqb-false}
-use Rattle.definition.specs.Instructions.{Decoded, decode, pick}
-use Rattle.definition.specs.Lists.{any, is_none, to_list, rows}
+use Rattle.definition.specs.Instructions.{pick}
+use Rattle.definition.specs.Lists.{any, is_none, rows}
 use Rattle.definition.specs.Classes.{Map}
 use Rattle.definition.specs.Verifier.{map_at, target, goes_on, unmapped_from}
 use Rattle.layout.specs.Places.{rows_step, rows_none, rows_start, rows_last}
 use Rattle.classfile.specs.Reading.{file_version, map_count, map_depth, map_end, map_of, map_place, map_numbered, maps_of, code_at, map_bytes, method_at, method_in}
-use Rattle.verifier.specs.Lookups.{map_there, Indexed, lacking, unmapped_in}
+use Rattle.verifier.specs.Lookups.{map_there, map_found, Indexed, unmapped_in}
 
 -- the place after map i, which begins at p and takes d bytes
 pub map_next : (ms : List ℕ) (i p d : ℕ) → p ≡ map_place ms i → d ≡ 19 + 2 * map_depth ms p → p + d ≡ map_place ms (i + 1)
@@ -40,10 +40,10 @@ module _ (m : Map) (ms : List Map) (p : ℕ) where
   later e = rw (ne_eqb m.offset p e, map_at)
 
 module _ (ms : List ℕ) (n i p q : ℕ) (e : p ≡ map_place ms i) where
-  pub found_here : i < n → 1 ≤ p → (map_of ms p).offset ≡ q → map_there ms p ≡ map_at (rows (map_numbered ms) (n - i) i) q
-  unfolding map_there pick map_numbered
-  found_here h l f =
-      rw (ne_eqb p 0 (λ z. omega arith), rows_step (map_numbered ms) n i h, ← e)
+  pub found_here : i < n → (map_of ms p).offset ≡ q → map_found ms (P.Some p) ≡ map_at (rows (map_numbered ms) (n - i) i) q
+  unfolding map_found map_numbered
+  found_here h f =
+      rw (rows_step (map_numbered ms) n i h, ← e)
       (sym (here (map_of ms p) (rows (map_numbered ms) (n - (i + 1)) (i + 1)) q f))
 
   pub found-later : i < n → (map_of ms p).offset ≢ q → map_at (rows (map_numbered ms) (n - i) i) q ≡ map_at (rows (map_numbered ms) (n - (i + 1)) (i + 1)) q
@@ -153,13 +153,12 @@ unfolding Indexed
 indexed-nowhere ms q h = absurd (omega arith)
 
 -- whether there is a map
-pub bare : (ms : List ℕ) (r : ℕ) (m : Option Map) → map_there ms r ≡ m → eqb r 0 ≡ is_none m
-unfolding map_there is_none pick
-bare ms r m e = rw (← e) (go (eqb r 0))
-  where
-    go : (b : Bool) → b ≡ is_none (pick b none (some (map_of ms r)))
-    go true = refl
-    go false = refl
+pub bare : (ms : List ℕ) (r : P.Option ℕ) (m : Option Map) → map_found ms r ≡ m → (b : Bool) → P.is_some r ≡ not b → b ≡ is_none m
+unfolding map_found is_none
+bare ms P.None m e true h = rw (← e) refl
+bare ms P.None m e false h = absurd (false≢true h)
+bare ms (P.Some r) m e false h = rw (← e) refl
+bare ms (P.Some r) m e true h = absurd (false≢true (sym h))
 
 pub any-one : {A : Type 0} (f : A → Bool) (a : A) (b : Bool) → b ≡ f a → b ≡ any f (a ∷ [])
 unfolding any

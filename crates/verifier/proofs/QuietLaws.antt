@@ -26,7 +26,7 @@ use Rattle.verifier.specs.declared.quiet.Quiet.TheVariants.{Keeps, Pushes, Sets}
 use Rattle.std.specs.Prelude.{Option, Some, None}
 use Rattle.std.specs.Option.{is_some}
 use Rattle.cells.specs.Optional.{optional}
-use Rattle.verifier.specs.Lookups.{map_there}
+use Rattle.verifier.specs.Lookups.{map_found}
 use Rattle.verifier.specs.Types.{types_of}
 use Rattle.verifier.specs.Effects.{notes_in, left_by}
 use Rattle.verifier.specs.Trace.{meet_from, values_trace, onto, onward, Turned, bound, once, target_trace, flowing, turned_to, turned, after, proceed, trace}
@@ -69,9 +69,14 @@ pub targetless : (o : M.Option ℕ) (r : Option ℕ) → r ≡ optional o → is
 targetless M.none r e h = refl
 targetless (M.some q) r e h = let t : is_some r ≡ true = rw e refl in absurd (false≢true (sym h ∙ t))
 
+-- what isn't there
+pub none-is : (r : Option ℕ) → is_some r ≡ false → r ≡ None
+none-is None h = refl
+none-is (Some x) h = absurd (false≢true (sym h))
+
 -- An instruction without a target goes on to a point without a map
 
-module _ (ms : List ℕ) (n q r : ℕ) (e : map_there ms r ≡ map_at (maps_of ms) q) (h : r ≡ 0) (i : Instruction) (g : target i ≡ M.none) (b : Bool) (w : b ≡ goes_on i) (z : b ≡ true) where
+module _ (ms : List ℕ) (n q : ℕ) (r : Option ℕ) (e : map_found ms r ≡ map_at (maps_of ms) q) (h : r ≡ None) (i : Instruction) (g : target i ≡ M.none) (b : Bool) (w : b ≡ goes_on i) (z : b ≡ true) where
   flows-on : (s : TypeState) → flowing n (maps_of ms) i q s ≡ bound (onto q s)
   unfolding target_trace once pick
   flows-on s = flow-on n (maps_of ms) i q s b w z ∙ rw (g, into-bare ms n q r e h s) refl

@@ -19,14 +19,14 @@ use Rattle.verifier.specs.declared.types.Types.{Types}
 use Rattle.verifier.specs.declared.changes.Change.{Change}
 use Rattle.verifier.specs.Types.{types_of}
 use Rattle.std.specs.Prelude as P
-use Rattle.verifier.specs.Lookups.{map_there}
+use Rattle.verifier.specs.Lookups.{map_found}
 use Rattle.verifier.specs.declared.decoding.Reading.{Reading}
 use Rattle.verifier.specs.Decoding.{reading_of, decoded_of}
 use Rattle.verifier.specs.Effects.{Outcome, outcome, left_by, leaves}
 use Rattle.verifier.specs.Trace.{Trace, refusing, values_trace, fits, meet_trace, Onward, refused, accepted, onto, Turned, bound, once, target_trace, into_turn, start_turn, next_turn, flowing, turned_to, turned, turned_by, Verification, verification, posting, Turning, turning, taking}
 use Rattle.verifier.specs.Answers.{made, change_of}
 use Rattle.verifier.proofs.DecodingLaws.{decode_is, decode-at}
-use Rattle.verifier.proofs.PostingLaws.{taking-once-on, rows-say}
+use Rattle.verifier.proofs.PostingLaws.{taking-once-on}
 use Rattle.verifier.proofs.FlowLaws.{fits-few}
 
 -- a map that is met has at most 16 operands
@@ -38,16 +38,16 @@ met-few s ms p l k j a e h = fits-few s ms p (go (fits (map_of ms p)) _ (sym (ap
     go true t q = refl
     go false t q = q
 
-module _ (ms : List ℕ) (n q r : ℕ) (e : map_there ms r ≡ map_at (maps_of ms) q) where
-  none-there : r ≡ 0 → map_at (maps_of ms) q ≡ none
-  unfolding map_there pick
+module _ (ms : List ℕ) (n q : ℕ) (o : P.Option ℕ) (e : map_found ms o ≡ map_at (maps_of ms) q) where
+  none-there : o ≡ P.None → map_at (maps_of ms) q ≡ none
+  unfolding map_found
   none-there h = sym e ∙ rw h refl
 
-  map-there : r ≢ 0 → map_at (maps_of ms) q ≡ some (map_of ms r)
-  unfolding map_there pick
-  map-there h = sym e ∙ rw (ne_eqb r 0 h) refl
+  map-there : (r : ℕ) → o ≡ P.Some r → map_at (maps_of ms) q ≡ some (map_of ms r)
+  unfolding map_found
+  map-there r h = sym e ∙ rw h refl
 
-  module _ (h : r ≡ 0) where
+  module _ (h : o ≡ P.None) where
     pub into-bare : (s : TypeState) → into_turn n (maps_of ms) q s ≡ bound (onto q s)
     unfolding into_turn
     into-bare s = rw (none-there h, into_turn) refl
@@ -60,22 +60,22 @@ module _ (ms : List ℕ) (n q r : ℕ) (e : map_there ms r ≡ map_at (maps_of m
     unfolding start_turn pick
     start-bare d = rw (ne_eqb q n d, none-there h, start_turn) refl
 
-  module _ (h : r ≢ 0) where
+  module _ (r : ℕ) (h : o ≡ P.Some r) where
     pub into-mapped : (s : TypeState) → into_turn n (maps_of ms) q s ≡ once (meet_trace s (map_of ms r)) (bound (onto q (map_types (map_of ms r))))
     unfolding into_turn
-    into-mapped s = rw (map-there h, into_turn) refl
+    into-mapped s = rw (map-there r h, into_turn) refl
 
     pub target-mapped : (t : Option ℕ) (x : ℕ) (s : TypeState) → t ≡ some x → q ≡ x → target_trace n (maps_of ms) t s ≡ meet_trace s (map_of ms r)
     unfolding target_trace
-    target-mapped t x s d f = rw (d, ← f, target_trace, map-there h) refl
+    target-mapped t x s d f = rw (d, ← f, target_trace, map-there r h) refl
 
     pub start-unfit : q ≢ n → fits (map_of ms r) ≡ false → start_turn n (maps_of ms) q ≡ bound refused
     unfolding start_turn pick
-    start-unfit d f = rw (ne_eqb q n d, map-there h, start_turn, f) refl
+    start-unfit d f = rw (ne_eqb q n d, map-there r h, start_turn, f) refl
 
     pub start-mapped : q ≢ n → fits (map_of ms r) ≡ true → start_turn n (maps_of ms) q ≡ bound (onto q (map_types (map_of ms r)))
     unfolding start_turn pick
-    start-mapped d f = rw (ne_eqb q n d, map-there h, start_turn, f) refl
+    start-mapped d f = rw (ne_eqb q n d, map-there r h, start_turn, f) refl
 
 pub start-end : (n : ℕ) (maps : List Map) (q : ℕ) → q ≡ n → start_turn n maps q ≡ bound accepted
 unfolding start_turn pick

@@ -1,5 +1,6 @@
 -- The map at a point, by the place at which it begins, and where an instruction goes on.
 use Rattle.std.specs.Prelude.{◌≡◌, Bool, false, ◌&&◌, ◌||◌, List, ℕ, ◌<◌, length, get_or, eqb, leb}
+use Rattle.std.specs.Prelude as P
 use Rattle.std.proofs.Math.Option.{Option, none, some}
 use Rattle.definition.specs.declared.Instruction.{Instruction}
 use Rattle.definition.specs.Instructions.{pick}
@@ -11,6 +12,10 @@ use Rattle.classfile.specs.Reading.{map_of, maps_of}
 -- the map that begins at that place; 0 stands for none
 unfoldable pub map_there : List ℕ → ℕ → Option Map
 map_there ms r = pick (eqb r 0) none (some (map_of ms r))
+
+unfoldable pub map_found : List ℕ → P.Option ℕ → Option Map
+map_found ms P.None = none
+map_found ms (P.Some r) = some (map_of ms r)
 
 -- a table with the place of the map at each point that it reaches
 unfoldable pub Indexed : List ℕ → List ℕ → Type 0

@@ -1,10 +1,10 @@
 // The map at a point, and where an instruction goes on.
-ghost use Rattle.std.specs.Prelude.{◌≡◌, ◌&&◌, ℕ, get_or, set, eqb};
+ghost use Rattle.std.specs.Prelude.{◌≡◌, ◌&&◌, List, ℕ, get_or, set, eqb};
 ghost use Rattle.definition.specs.Instructions.{pick};
 ghost use Rattle.definition.specs.Lists.{is_none, any, to_list};
 ghost use Rattle.definition.specs.Verifier.{map_at, target, goes_on};
 ghost use Rattle.classfile.specs.Reading.{maps_of};
-ghost use Rattle.verifier.specs.Lookups.{map_there, Indexed, lacking};
+ghost use Rattle.verifier.specs.Lookups.{map_there, map_found, Indexed, lacking};
 ghost use Rattle.cells.specs.Optional.{optional};
 
 use definition::numbers::CODE_LIMIT;
@@ -13,18 +13,18 @@ use definition::{Condition, Instruction};
 // How many points a method has at most, in a file that reads.
 const POINTS: usize = CODE_LIMIT as usize;
 
-// The place of the first map at point q, by a search; 0 where there is none.
-fn search_map(maps: &[u8], q: usize) -> u32
-    ensures { map_there maps.now result ≡ map_at (maps_of maps.now) q }
+// The place of the first map at point q, by a search.
+fn search_map(maps: &[u8], q: usize) -> Option<u32>
+    ensures { map_found maps.now result ≡ map_at (maps_of maps.now) q }
 {
     let mut place: u32 = 1;
     for i in 0..classfile::map_count(maps) {
         if usize::from(classfile::map_offset(maps, place)) == q {
-            return place;
+            return Some(place);
         }
         place += classfile::map_size(maps, place);
     }
-    0
+    None
 }
 
 // The place goes to point q, if that is reached and has none yet.
@@ -38,7 +38,7 @@ fn put_place(places: &mut [u32], q: usize, place: u32)
     }
 }
 
-// The place of the map at each point that a method may have.
+// The place of the map at each point that a method may have; 0 where there is none.
 pub(crate) fn index_maps(maps: &[u8]) -> [u32; POINTS]
     ensures { Indexed maps.now result }
 {
@@ -52,13 +52,20 @@ pub(crate) fn index_maps(maps: &[u8]) -> [u32; POINTS]
     places
 }
 
-// The place of the first map at point q; 0 where there is none. A point that the table doesn't reach is searched for.
-pub(crate) fn find_map(maps: &[u8], places: &[u32], q: usize) -> u32
+// A cell of the table: 0 is no place.
+fn placed(place: u32) -> Option<u32>
+    ensures { (ms : List ℕ) → map_found ms result ≡ map_there ms place }
+{
+    if place == 0 { None } else { Some(place) }
+}
+
+// The place of the first map at point q. A point that the table doesn't reach is searched for.
+pub(crate) fn find_map(maps: &[u8], places: &[u32], q: usize) -> Option<u32>
     requires { Indexed maps.now places.now }
-    ensures { map_there maps.now result ≡ map_at (maps_of maps.now) q }
+    ensures { map_found maps.now result ≡ map_at (maps_of maps.now) q }
 {
     if q < places.len() {
-        places[q]
+        placed(places[q])
     } else {
         search_map(maps, q)
     }
@@ -95,7 +102,7 @@ fn is_bare(maps: &[u8], places: &[u32], q: usize) -> bool
     requires { Indexed maps.now places.now }
     ensures { result ≡ is_none (map_at (maps_of maps.now) q) }
 {
-    find_map(maps, places, q) == 0
+    find_map(maps, places, q).is_none()
 }
 
 fn is_wanting(maps: &[u8], places: &[u32], p: usize, wants: bool) -> bool

@@ -118,7 +118,7 @@ fn quiet_at(
         return None;
     }
     let q = p + read.size;
-    if find_map(maps, places, q) != 0 {
+    if find_map(maps, places, q).is_some() {
         return None;
     }
     let effect = effect_of(types, i, res)?;

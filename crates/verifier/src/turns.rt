@@ -40,15 +40,14 @@ pub(crate) fn flow_into(
     requires { Indexed maps.now places.now }
     ensures { (n : ℕ) → stepped result subtypes.new ≡ taking loader (into_turn n (maps_of maps.now) q (types_of types)) (noted subtypes.old count) }
 {
-    let place = find_map(maps, places, q);
-    if place == 0 {
+    let Some(place) = find_map(maps, places, q) else {
         return Ok(Turn {
             next: Some(q),
             count,
             near,
             types,
         });
-    }
+    };
     let met = meet_map(maps, place, types, loader, subtypes, count, near)?;
     let mapped = mapped_types(maps, place);
     Ok(Turn {
@@ -80,10 +79,9 @@ fn start_at(
             types,
         });
     }
-    let place = find_map(maps, places, q);
-    if place == 0 {
+    let Some(place) = find_map(maps, places, q) else {
         return Err(Rejected { count });
-    }
+    };
     if !is_fitting(maps, place) {
         return Err(Rejected { count });
     }
@@ -112,10 +110,9 @@ fn flow_to_target(
     let Some(q) = target_of(i) else {
         return Ok(Posted { count, near });
     };
-    let place = find_map(maps, places, usize::from(q));
-    if place == 0 {
+    let Some(place) = find_map(maps, places, usize::from(q)) else {
         return Err(Rejected { count });
-    }
+    };
     meet_map(maps, place, types, loader, subtypes, count, near)
 }
 

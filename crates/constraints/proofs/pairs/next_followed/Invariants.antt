@@ -1,3 +1,4 @@
+-- No place that was passed is marked.
 use Prim.Native.Nat.{ℕ, ◌-◌, ◌<◌, ◌≤◌}
 use Rattle.constraints.specs.Search.{Marked}
 use Rattle.constraints.proofs.pairs.next_followed.Given as goal

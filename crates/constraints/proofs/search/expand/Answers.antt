@@ -20,7 +20,8 @@ loop-follow-preserved c =
     let test = c.loop-follow-test in
     let pre = c.requires in
     let n = pre.5.next (loop.follow - 1) (omega (arith, loop.invariant.high, test.true)) in
-    expanding-one _ _ _ _ _ _ _ (omega (arith, test.true)) n loop.invariant (rw c.place-end.ensures.0 at c.visit-queued.ensures)
+    rw c.from-follow-in-loop-follow.ensures
+    (expanding-one _ _ _ _ _ _ _ (omega (arith, test.true)) n loop.invariant (rw c.place-end.ensures.0 at c.visit-queued.ensures))
 
 pub returns : goal.returns
 returns c = expanding-all _ _ _ _ _ _ _ c.loop-follow-test.false c.loop-follow.invariant

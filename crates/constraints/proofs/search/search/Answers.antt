@@ -19,4 +19,4 @@ pub loop-done-smaller : goal.loop-done-smaller
 loop-done-smaller c = omega (arith, tail-low c.loop-done.invariant.queued, c.loop-done-test.true)
 
 pub loop-done-preserved : goal.loop-done-preserved
-loop-done-preserved c = searching-one _ _ _ _ _ _ _ c.loop-done-test.true c.loop-done.invariant c.expand-tail-in-loop-done.ensures
+loop-done-preserved c = searching-one _ _ _ _ _ _ _ c.loop-done-test.true c.loop-done.invariant (rw c.from-group.ensures at c.expand-tail-in-loop-done.ensures)

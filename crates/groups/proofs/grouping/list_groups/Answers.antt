@@ -5,9 +5,6 @@ use lib.ListN.{length-replicate, get_or-replicate}
 use borrow.Author.Rules.{rules}
 use Rattle.groups.proofs.grouping.list_groups.Goals as goal
 
-pub number_few-requires : goal.number_few-requires
-number_few-requires c = (c.requires.0, c.requires.1, length-replicate {A = ℕ} 256 0)
-
 pub list_named-requires : goal.list_named-requires
 list_named-requires c = (c.requires, search rules, c.number_few.ensures, omega (arith, c.if-n-le-FEW_ROWS.true, length-replicate {A = ℕ} 256 0), λ x h. get_or-replicate {A = ℕ} 256 x 0 0 (omega (arith, h, length-replicate {A = ℕ} 256 0)))
 

@@ -3,12 +3,6 @@ use native.Mathlib.Omega.{arith}
 use Rattle.groups.proofs.Rooting.{root-here, root-next}
 use Rattle.groups.proofs.uniting.root.Goals as goal
 
-pub loop-up-init : goal.loop-up-init
-loop-up-init c = (omega arith, c.from-up.ensures, λ r s. s)
-
-pub bounds-ups-at-in-loop-up : goal.bounds-ups-at-in-loop-up
-bounds-ups-at-in-loop-up c = omega (arith, c.loop-up.invariant.0, c.loop-up-test.true, c.requires)
-
 pub loop-up-preserved : goal.loop-up-preserved
 loop-up-preserved c =
     let loop = c.loop-up in

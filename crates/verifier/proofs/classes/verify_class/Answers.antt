@@ -2,7 +2,6 @@
 use mathlib.Core.Path.{refl, sym, ◌∙◌}
 use native.Mathlib.Omega.{arith}
 use Prim.Native.Nat.{◌<◌}
-use borrow.Author.Tests.{not-true, not-false}
 use Rattle.classfile.specs.Reading.{method_count}
 use Rattle.verifier.proofs.PostingLaws.{exits}
 use Rattle.verifier.proofs.ClassLaws.{class-goes, class-stops, class-ends, class-begins}

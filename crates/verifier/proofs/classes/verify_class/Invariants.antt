@@ -1,6 +1,4 @@
 use mathlib.Core.Path.{◌≡◌}
-use Prim.Native.Nat.{◌≤◌, ◌-◌}
-use lib.ListN.{length}
 use Rattle.classfile.specs.Reading.{file_version, class_name, methods_from}
 use Rattle.rows.specs.Posting.{noted}
 use Rattle.verifier.specs.Trace.{methods_trace, class_trace, posting}

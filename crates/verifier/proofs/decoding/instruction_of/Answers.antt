@@ -1,6 +1,5 @@
 -- Each opcode's instruction is read off its inline bytes.
-use Rattle.definition.specs.Instructions.{instruction_of, sized_as}
-use Rattle.verifier.specs.Decoding.{reading_of}
+use Rattle.definition.specs.Instructions.{instruction_of}
 use Rattle.verifier.proofs.CallLaws.{call-inline, call-list}
 use Rattle.verifier.proofs.decoding.instruction_of.Goals as goal
 

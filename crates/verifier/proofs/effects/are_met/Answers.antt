@@ -1,7 +1,6 @@
 -- The values are met one by one. Whether those that are left are met is always whether all are.
 use mathlib.Core.Path.{sym, ap, ◌∙◌}
 use mathlib.Core.Bool.{Bool}
-use native.Mathlib.Omega.{arith}
 use Rattle.verifier.specs.Trace.{Trace, after}
 use Rattle.verifier.proofs.ChangeLaws.{met-notes, unmet-notes}
 use Rattle.verifier.proofs.FlowLaws.{places-end, places-unmet, places-met}

@@ -1,5 +1,5 @@
 use mathlib.Core.Path.{◌≡◌}
-use Prim.Native.Nat.{◌≤◌, ◌-◌}
+use Prim.Native.Nat.{◌-◌}
 use Rattle.verifier.specs.Effects.{meet_value}
 use Rattle.verifier.specs.Trace.{meet_from, values_trace}
 use Rattle.verifier.proofs.effects.are_met.Given as goal

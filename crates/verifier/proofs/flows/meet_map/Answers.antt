@@ -1,5 +1,5 @@
 -- A map that could be met: its locals, then its operands.
-use mathlib.Core.Path.{◌≡◌, refl, sym, ◌∙◌}
+use mathlib.Core.Path.{refl, sym, ◌∙◌}
 use Rattle.rows.specs.Posting.{post_notes}
 use Rattle.verifier.specs.Trace.{posting}
 use Rattle.verifier.proofs.PostingLaws.{exits, then-on, then-stop}

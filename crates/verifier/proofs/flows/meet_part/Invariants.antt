@@ -1,6 +1,5 @@
 use mathlib.Core.Path.{◌≡◌}
-use Prim.Native.Nat.{◌≤◌, ◌-◌}
-use lib.ListN.{length}
+use Prim.Native.Nat.{◌-◌}
 use Rattle.rows.specs.Posting.{noted}
 use Rattle.verifier.specs.Trace.{posting, meet_from}
 use Rattle.verifier.specs.Answers.{meet_at}

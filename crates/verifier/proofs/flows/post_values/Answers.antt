@@ -1,6 +1,5 @@
 -- The values are met one by one. What is left of them, with the notes posted so far, is always the whole.
-use mathlib.Core.Path.{refl, sym, ◌∙◌}
-use native.Mathlib.Omega.{arith}
+use mathlib.Core.Path.{sym, ◌∙◌}
 use Rattle.verifier.proofs.ChangeLaws.{met-notes, unmet-notes}
 use Rattle.verifier.proofs.FlowLaws.{meet-end, meet-unmet, meet-met}
 use Rattle.verifier.proofs.PostingLaws.{rows-say}

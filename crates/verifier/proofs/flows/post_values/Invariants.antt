@@ -1,6 +1,5 @@
 use mathlib.Core.Path.{◌≡◌}
-use Prim.Native.Nat.{◌≤◌, ◌-◌}
-use lib.ListN.{length}
+use Prim.Native.Nat.{◌-◌}
 use Rattle.rows.specs.Posting.{noted}
 use Rattle.verifier.specs.Effects.{meet_value}
 use Rattle.verifier.specs.Trace.{posting, meet_from, values_trace}

@@ -2,8 +2,7 @@
 use mathlib.Core.Path.{sym, ◌∙◌}
 use native.Mathlib.Omega.{arith}
 use Rattle.classfile.specs.Reading.{map_of, map_place}
-use Rattle.verifier.proofs.LookupLaws.{map_next, indexed-none, placed-length, indexed-more, indexed-all}
-use borrow.Author.Rules.{rules}
+use Rattle.verifier.proofs.LookupLaws.{map_next, indexed-none, indexed-more, indexed-all}
 use Rattle.verifier.proofs.lookups.index_maps.Goals as goal
 
 pub loop-i-init : goal.loop-i-init

@@ -1,7 +1,6 @@
-use Prim.Native.Nat.{◌+◌, ◌-◌, ◌*◌, ◌≤◌}
+use Prim.Native.Nat.{◌+◌, ◌*◌, ◌≤◌}
 use mathlib.Core.Path.{◌≡◌}
-use lib.ListN.{length}
-use Rattle.classfile.specs.Reading.{map_count, map_place}
+use Rattle.classfile.specs.Reading.{map_place}
 use Rattle.verifier.proofs.LookupLaws.{IndexedTo}
 use Rattle.verifier.proofs.lookups.index_maps.Given as goal
 

@@ -7,7 +7,6 @@ use Rattle.verifier.proofs.lookups.search_map.Given as goal
 
 abbrev pub invariant-loop-i : goal.invariant-loop-i
 invariant-loop-i l = record {
-  some : 1 ≤ l.place;
   at : l.place ≡ map_place l.maps l.i;
   low : l.place ≤ 1 + 529 * l.i;
   rest : map_at (rows (map_numbered l.maps) (l.i-end - l.i) l.i) l.q ≡ map_at (maps_of l.maps) l.q;

@@ -1,6 +1,5 @@
 use mathlib.Core.Path.{◌≡◌}
-use Prim.Native.Nat.{◌-◌}
-use Rattle.classfile.specs.Reading.{file_version, class_name, method_count, methods_from, quick_methods}
+use Rattle.classfile.specs.Reading.{file_version, class_name, methods_from, quick_methods}
 use Rattle.definition.specs.Places.{first_place}
 use Rattle.verifier.specs.Stops.{check_in}
 use Rattle.verifier.proofs.places.find_place.Given as goal

@@ -1,5 +1,5 @@
 -- Each turn is one of the walk: what is left of it is always the whole.
-use mathlib.Core.Path.{refl, ◌∙◌}
+use mathlib.Core.Path.{◌∙◌}
 use mathlib.Core.List.{[]}
 use native.Mathlib.Omega.{arith}
 use Rattle.verifier.proofs.WalkLaws.{passed_to}

@@ -11,13 +11,13 @@ pub returns-in_default : goal.returns-in_default
 unfolding target_trace posting post_notes
 returns-in_default c = λ n. rw (optional-none _ (sym c.target_of.ensures ∙ c.in_default.is)) refl
 
-pub returns-then-place-eq0 : goal.returns-then-place-eq0
+pub returns-in_default-find_map : goal.returns-in_default-find_map
 unfolding posting post_notes
-returns-then-place-eq0 c =
-    λ n. rw (target-bare _ n _ _ c.find_map-place.ensures c.if-place-eq0.true _ _ _ (optional-some _ _ (sym c.target_of.ensures ∙ c.in-Some.is)) c.from.ensures) refl
+returns-in_default-find_map c =
+    λ n. rw (target-bare _ n _ _ c.find_map.ensures c.in_default-find_map.is _ _ _ (optional-some _ _ (sym c.target_of.ensures ∙ c.in-Some.is)) c.from.ensures) refl
 
 pub returns : goal.returns
 returns c =
     λ n. posting-same _ _ _ _ _
-    (target-mapped _ n _ _ c.find_map-place.ensures c.if-place-eq0.false _ _ _ (optional-some _ _ (sym c.target_of.ensures ∙ c.in-Some.is)) c.from.ensures)
+    (target-mapped _ n _ _ c.find_map.ensures _ c.in-Some-find_map.is _ _ _ (optional-some _ _ (sym c.target_of.ensures ∙ c.in-Some.is)) c.from.ensures)
     c.meet_map.ensures

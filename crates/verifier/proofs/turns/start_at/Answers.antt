@@ -9,13 +9,13 @@ pub returns-then-q-n : goal.returns-then-q-n
 unfolding next_of
 returns-then-q-n c = λ l t. taken-bound _ _ _ _ (start-end _ _ _ c.if-q-n.true)
 
-pub returns-then-place-eq0 : goal.returns-then-place-eq0
-returns-then-place-eq0 c = λ l t. taken-bound _ _ _ _ (start-bare _ _ _ _ c.find_map-place.ensures c.if-place-eq0.true c.if-q-n.false)
+pub returns-in_default : goal.returns-in_default
+returns-in_default c = λ l t. taken-bound _ _ _ _ (start-bare _ _ _ _ c.find_map.ensures c.in_default.is c.if-q-n.false)
 
 pub returns-then-not-is_fitting : goal.returns-then-not-is_fitting
 returns-then-not-is_fitting c =
     λ l t. taken-bound _ _ _ _
-    (start-unfit _ _ _ _ c.find_map-place.ensures c.if-place-eq0.false c.if-q-n.false
+    (start-unfit _ _ _ _ c.find_map.ensures _ c.in-Some.is c.if-q-n.false
     (sym c.is_fitting.ensures ∙ c.if-not-is_fitting.true))
 
 pub mapped_types-requires : goal.mapped_types-requires
@@ -25,5 +25,5 @@ pub returns : goal.returns
 unfolding next_of
 returns c =
     λ l t. rw c.mapped_types.ensures (taken-bound _ _ _ _
-    (start-mapped _ _ _ _ c.find_map-place.ensures c.if-place-eq0.false c.if-q-n.false
+    (start-mapped _ _ _ _ c.find_map.ensures _ c.in-Some.is c.if-q-n.false
     (sym c.is_fitting.ensures ∙ c.if-not-is_fitting.false)))

@@ -1,7 +1,7 @@
 use Prim.Native.Nat.{◌-◌}
 use mathlib.Core.Path.{◌≡◌}
 use Rattle.definition.specs.Lists.{any, rows}
-use Rattle.classfile.specs.Reading.{file_version, method_count, method_in, quick_methods}
+use Rattle.classfile.specs.Reading.{file_version, method_in, quick_methods}
 use Rattle.verifier.specs.Lookups.{unmapped_in}
 use Rattle.verifier.proofs.unmapped.is_class_unmapped.Given as goal
 
