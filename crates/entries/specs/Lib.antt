@@ -3,3 +3,4 @@ pub mod World
 pub mod Entering
 pub mod Offers
 pub mod Remembering
+pub mod Writing

@@ -1,60 +1,26 @@
-// Cells and rows written one after another, a cache with one more entry on copies, and the trace of loads: what every call that loads goes by.
+// Cells written one after another, a cache with one more entry on copies, and the trace of loads: what every call that loads goes by.
 #![tactic(auto)]
 
 mod trace; // trace.rt: a load remembered
 
-ghost use Rattle.std.specs.Prelude.{◌≡◌, ℕ, ◌+◌, ◌-◌, ◌<◌, ◌≤◌, List, slice_set};
-ghost use Rattle.definition.specs.Lists.{write_rows};
-ghost use Rattle.definition.specs.Tables.{put_three};
+ghost use Rattle.std.specs.Prelude.{◌≡◌, ℕ, List};
 ghost use Rattle.definition.specs.Reasons.{tries, unlisted};
 ghost use Rattle.entries.specs.Entering.{Entered, Tried};
+ghost use Rattle.entries.specs.Writing.{written};
 
 use definition::numbers::COUNT_CACHE;
 use definition::{Reply, Trial};
+use resolution::Base;
 pub use trace::remember;
 
-// How many of n cells, written from `start` on, a table of that size has room for.
-fn room(size: usize, start: usize, n: usize) -> usize
-    ensures { (result ≤ n) × (result ≤ size - start) × (result < n → size ≤ start + result) }
-{
-    if size <= start {
-        return 0;
-    }
-    let left = size - start;
-    if left < n { left } else { n }
-}
-
 // Cells written one after another from a place on; past the end nothing is written.
-pub fn write_cells(t: &mut [u16], from: u16, cells: &[u16])
-    ensures { t.new ≡ write_rows slice_set cells.now from t.old }
+#[tactic(auto, unfolding(crate::specs::Writing::written))]
+pub fn write_cells<T: Copy>(t: &mut [T], from: u16, cells: &[T])
+    ensures { t.new ≡ written cells.now from t.old }
 {
-    let start = usize::from(from);
-    let n = room(t.len(), start, cells.len());
-    let mut i = 0;
-    while i < n {
-        t[start + i] = cells[i];
-        i += 1;
-    }
-}
-
-// Bytes written one after another from a place on; past the end nothing is written.
-pub fn write_bytes(t: &mut [u8], from: u16, bytes: &[u8])
-    ensures { t.new ≡ write_rows slice_set bytes.now from t.old }
-{
-    let start = usize::from(from);
-    let n = room(t.len(), start, bytes.len());
-    let mut i = 0;
-    while i < n {
-        t[start + i] = bytes[i];
-        i += 1;
-    }
-}
-
-// A row of three cells.
-pub fn put_three(t: &mut [u16], i: u16, a: u16, b: u16, c: u16)
-    ensures { t.new ≡ put_three t.old i a b c }
-{
-    cells::put_three(t, u32::from(i), a, b, c);
+    let start = usize::from(from).min(t.len());
+    let n = cells.len().min(t.len() - start);
+    t[start..start + n].copy_from_slice(&cells[..n]);
 }
 
 // The counts and the cache written over the fronts of two tables, of any lengths, with one more entry: its row stands at the old count of entries,
@@ -73,16 +39,13 @@ fn enter(
     write_cells(counted, 0, counts);
     write_cells(trial, 0, cache);
     let entries = cells::at(counts, COUNT_CACHE);
-    cells::put(counted, COUNT_CACHE, std::num::wrapping_add_u16(entries, 1));
-    put_three(trial, entries, loader, name, class);
+    cells::put(counted, COUNT_CACHE, entries.wrapping_add(1));
+    cells::put_three(trial, u32::from(entries), loader, name, class);
 }
 
 // A store with one more entry, on copies: its counts and its cache, and the direct superclasses by them.
 pub fn try_entry(
-    counts: &[u16],
-    classes: &[u16],
-    kept: &[u8],
-    cache: &[u16],
+    base: &Base,
     loader: u16,
     name: u16,
     class: u16,
@@ -90,18 +53,21 @@ pub fn try_entry(
     trial: &mut [u16],
     supers: &mut [u8],
 )
-    ensures { Tried counts.now classes.now kept.now cache.now loader name class counted.old trial.old supers.old counted.new trial.new supers.new }
+    ensures { Tried base.now.counts.now base.now.classes.now base.now.kept.now base.now.cache.now loader name class counted.old trial.old supers.old counted.new trial.new supers.new }
 {
-    enter(counts, cache, loader, name, class, counted, trial);
-    resolution::fill_supers(supers, counted, classes, kept, trial);
+    enter(base.counts, base.cache, loader, name, class, counted, trial);
+    let entered = Base {
+        counts: counted,
+        classes: base.classes,
+        kept: base.kept,
+        cache: trial,
+    };
+    entered.fill_supers(supers);
 }
 
 // A tried load that lists nothing.
 pub fn unlisted(reply: Reply) -> Trial
     ensures { (out : List ℕ) → tries result.reply result.count out ≡ unlisted reply out }
 {
-    Trial {
-        reply: reply,
-        count: 0,
-    }
+    Trial { reply, count: 0 }
 }

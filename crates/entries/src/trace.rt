@@ -31,11 +31,9 @@ fn copy_level(counts: &mut [u16], from: usize, i: u16)
 fn move_down(counts: &mut [u16])
     ensures { counts.new ≡ moved_down counts.old 31 }
 {
-    let mut k: u16 = 0;
-    while k < LAST {
+    for k in 0..LAST {
         let from = TRACE_CELL + (usize::from(k) + 1) * LEVEL_CELLS;
         copy_level(counts, from, k);
-        k += 1;
     }
 }
 

@@ -24,8 +24,8 @@ use Rattle.entries.specs.Offers.{with_list, offered}
 use Rattle.entries.proofs.Calls.{wrap-broken, wrap-refused}
 use Rattle.entries.proofs.Offers.{list-long, list-short, list-unknown, try-quiet, try-clash}
 use Rattle.loading.specs.declared.loads.Newcomer.{Newcomer}
-use Rattle.loading.specs.declared.loads.Plan.{Plan}
-use Rattle.loading.specs.declared.loads.Plan.TheVariants.{Refuse, Keep, Add}
+use Rattle.std.specs.Prelude.{Ok, Err, Some, None}
+use Rattle.loading.specs.Stages.{Plan}
 use Rattle.loading.specs.Writing.{numbers_after}
 use Rattle.loading.specs.Plans.{file_of, new_world, Sized, new_reply, Groupable, Newly, Admitted, Adding, Planned, Grouping, PostsNone, Made, Ready}
 
@@ -35,16 +35,16 @@ module _ (c : Load) (t : Tables) (size : ℕ) (u v : List ℕ) where
 
   -- Refusals
 
-  pub admits-broken : broken t ≡ true → Admitted (Refuse (Word 1)) c t size u v
+  pub admits-broken : broken t ≡ true → Admitted (Err (Word 1)) c t size u v
   unfolding Admitted number
   admits-broken h = (wrap-broken Denied offer t h, λ z. omega arith)
 
   module _ (sound : broken t ≡ false) where
-    pub admits-unknown : load_rows c (view t) ≡ refused (Word 3) → Admitted (Refuse (Word 3)) c t size u v
+    pub admits-unknown : load_rows c (view t) ≡ refused (Word 3) → Admitted (Err (Word 3)) c t size u v
     unfolding Admitted number offered
     admits-unknown e = (wrap-refused Denied offer t sound (Word 3) (ap (with_list size) e ∙ list-unknown size (Word 3) refl), λ z. omega arith)
 
-    pub admits-short : size < 512 → Refuses (λ x. number x ≡ 3 → ⊥) (load_rows c (view t)) → Admitted (Refuse (Word 16)) c t size u v
+    pub admits-short : size < 512 → Refuses (λ x. number x ≡ 3 → ⊥) (load_rows c (view t)) → Admitted (Err (Word 16)) c t size u v
     unfolding Admitted number offered
     admits-short h k = (wrap-refused Denied offer t sound (Word 16) (list-short size (load_rows c (view t)) h k), λ z. omega arith)
 
@@ -52,17 +52,17 @@ module _ (c : Load) (t : Tables) (size : ℕ) (u v : List ℕ) where
     unfolding offered
     whole_by long o e = list-long size (load_rows c (view t)) long ∙ e
 
-    pub admits-refused : 512 ≤ size → (r : Refusal) → load_rows c (view t) ≡ refused r → (number r ≡ 9 → ⊥) → Admitted (Refuse r) c t size u v
+    pub admits-refused : 512 ≤ size → (r : Refusal) → load_rows c (view t) ≡ refused r → (number r ≡ 9 → ⊥) → Admitted (Err r) c t size u v
     unfolding Admitted
     admits-refused long r e k = (wrap-refused Denied offer t sound r (whole_by long (refused r) e), k)
 
   -- Decided by agreement
 
-  pub decides-refuse : (r : Refusal) → Admitted (Refuse r) c t size u v → Planned (Refuse r) c t size u v
+  pub decides-refuse : (r : Refusal) → Admitted (Err r) c t size u v → Planned (Err r) c t size u v
   unfolding Admitted Planned
   decides-refuse r h = h.0
 
-  pub decides-keep : Admitted Keep c t size u v → Planned Keep c t size u v
+  pub decides-keep : Admitted (Ok None) c t size u v → Planned (Ok None) c t size u v
   unfolding Admitted Planned
   decides-keep h = h
 
@@ -70,27 +70,27 @@ module _ (c : Load) (t : Tables) (size : ℕ) (u v : List ℕ) where
     abbrev agreeing : Type 0
     agreeing = agrees (new_world n (file_of c) (quick_base t.counts t.classes t.kept t.cache) u v) ≡ true
 
-    pub decides-add : agreeing → Planned (Add n) c t size u v
+    pub decides-add : agreeing → Planned (Ok (Some n)) c t size u v
     unfolding Planned
     decides-add a = record { newly = h; whole = h.fine a }
 
-    pub decides-clash : agrees (new_world n (file_of c) (quick_base t.counts t.classes t.kept t.cache) u v) ≡ false → Planned (Refuse (Word 9)) c t size u v
+    pub decides-clash : agrees (new_world n (file_of c) (quick_base t.counts t.classes t.kept t.cache) u v) ≡ false → Planned (Err (Word 9)) c t size u v
     unfolding Planned
     decides-clash a = wrap-refused Denied offer t h.sound (Word 9) (whole_by h.sound h.long (refused (Word 9)) (h.clash a))
 
   pub admitted-ready : (p : Plan) → Admitted p c t size u v → Ready t.counts t.classes t.kept t.cache p
   unfolding Admitted Ready
-  admitted-ready (Refuse r) h = tt
-  admitted-ready Keep h = tt
-  admitted-ready (Add n) h = h.fits.sized
+  admitted-ready (Err r) h = tt
+  admitted-ready (Ok None) h = tt
+  admitted-ready (Ok (Some n)) h = h.fits.sized
 
 -- What a plan holds of a newcomer
 
-pub ready-new : {p : Plan} (counts classes kept cache : List ℕ) (n : Newcomer) → p ≡ Add n → Ready counts classes kept cache p → Sized counts classes kept cache n
+pub ready-new : {p : Plan} (counts classes kept cache : List ℕ) (n : Newcomer) → p ≡ Ok (Some n) → Ready counts classes kept cache p → Sized counts classes kept cache n
 unfolding Ready
 ready-new counts classes kept cache n e h = subst (λ (x : Plan). Ready counts classes kept cache x) e h
 
-pub planned-new : {p : Plan} {c : Load} {t : Tables} {size : ℕ} {u v : List ℕ} (n : Newcomer) → p ≡ Add n → Planned p c t size u v → Adding c t size u v n
+pub planned-new : {p : Plan} {c : Load} {t : Tables} {size : ℕ} {u v : List ℕ} (n : Newcomer) → p ≡ Ok (Some n) → Planned p c t size u v → Adding c t size u v n
 unfolding Planned
 planned-new {p} {c} {t} {size} {u} {v} n e h = subst (λ (x : Plan). Planned x c t size u v) e h
 
@@ -117,23 +117,23 @@ module _ (n : Newcomer) where
 -- of a define: made of its ties
 pub made-grouping : (p : Plan) (l : ℕ) (bs : List ℕ) (t : Tables) (size : ℕ) (u v g : List ℕ) → Admitted p (load_define l bs) t size u v → Made p u g → Grouping p u g
 unfolding Admitted Made Grouping Groupable
-made-grouping (Refuse r) l bs t size u v g h m = tt
-made-grouping Keep l bs t size u v g h m = tt
-made-grouping (Add n) l bs t size u v g h m = m h.fits.sized.grown.ties_few h.groups.0
+made-grouping (Err r) l bs t size u v g h m = tt
+made-grouping (Ok None) l bs t size u v g h m = tt
+made-grouping (Ok (Some n)) l bs t size u v g h m = m h.fits.sized.grown.ties_few h.groups.0
 
 -- of a define that posts no tie: those beside the stored ties
 pub kept-grouping : (p : Plan) (l : ℕ) (bs : List ℕ) (t : Tables) (size : ℕ) (u v g : List ℕ) → g ≡ drop groups_cell t.counts → PostsNone p t.counts → Admitted p (load_define l bs) t size u v → Grouping p u g
 unfolding Admitted PostsNone Grouping Groupable
-kept-grouping (Refuse r) l bs t size u v g e k h = tt
-kept-grouping Keep l bs t size u v g e k h = tt
-kept-grouping (Add n) l bs t size u v g e k h = subst (λ (x : List ℕ). Beside u x n.tied) (sym e) (h.groups.1 k)
+kept-grouping (Err r) l bs t size u v g e k h = tt
+kept-grouping (Ok None) l bs t size u v g e k h = tt
+kept-grouping (Ok (Some n)) l bs t size u v g e k h = subst (λ (x : List ℕ). Beside u x n.tied) (sym e) (h.groups.1 k)
 
 -- of a record: those beside the stored ties
 pub stored-grouping : (p : Plan) (l m k : ℕ) (t : Tables) (size : ℕ) (u v g : List ℕ) → g ≡ drop groups_cell t.counts → Admitted p (load_record l m k) t size u v → Grouping p u g
 unfolding Admitted Grouping Groupable
-stored-grouping (Refuse r) l m k t size u v g e h = tt
-stored-grouping Keep l m k t size u v g e h = tt
-stored-grouping (Add n) l m k t size u v g e h = subst (λ (x : List ℕ). Beside u x n.tied) (sym e) h.groups
+stored-grouping (Err r) l m k t size u v g e h = tt
+stored-grouping (Ok None) l m k t size u v g e h = tt
+stored-grouping (Ok (Some n)) l m k t size u v g e h = subst (λ (x : List ℕ). Beside u x n.tied) (sym e) h.groups
 
 -- Tried
 
@@ -146,11 +146,11 @@ new-number n = go n.above
     go (suc p) z = omega arith
 
 module _ (c : Load) (out : List ℕ) (t : Tables) (u v : List ℕ) where
-  pub tries-refused : (r : Refusal) → Admitted (Refuse r) c t (length out) u v → unlisted (Denied r) out ≡ try_load c out t
+  pub tries-refused : (r : Refusal) → Admitted (Err r) c t (length out) u v → unlisted (Denied r) out ≡ try_load c out t
   unfolding Admitted number_of
   tries-refused r h = try-quiet c out t t (Denied r) h.0 h.1
 
-  pub tries-kept : Admitted Keep c t (length out) u v → unlisted Accepted out ≡ try_load c out t
+  pub tries-kept : Admitted (Ok None) c t (length out) u v → unlisted Accepted out ≡ try_load c out t
   unfolding Admitted number_of
   tries-kept h = try-quiet c out t t Accepted h (λ z. omega arith)
 

@@ -52,11 +52,10 @@ use Rattle.entries.proofs.Laws.{copied}
 use Rattle.entries.proofs.Calls.{wrap-given}
 use Rattle.entries.proofs.Offers.{reason-after}
 use Rattle.loading.specs.declared.loads.Newcomer.{Newcomer}
-use Rattle.loading.specs.declared.loads.Plan.{Plan}
-use Rattle.loading.specs.declared.loads.Plan.TheVariants.{Refuse, Keep, Add}
-use Rattle.loading.specs.Stages.{judged_world, defined_from, Placing, Decided}
+use Rattle.std.specs.Prelude.{Ok, Err}
+use Rattle.loading.specs.Stages.{ClassPlan, judged_world, defined_from, Placing, Decided}
 use Rattle.loading.specs.Writing.{numbers_on, numbers_after, Grown}
-use Rattle.loading.specs.Plans.{file_of, new_world, Placed, new_reply, counts_over, counts_with, grouped_with, written, Groupable, Newly, Admitted}
+use Rattle.loading.specs.Plans.{added, file_of, new_world, Placed, new_reply, counts_over, counts_with, grouped_with, written, Groupable, Newly, Admitted}
 use Rattle.loading.proofs.Remembered.{counts-remembered}
 use Rattle.loading.proofs.Numbered.{numbers-given, numbers-in-turn}
 use Rattle.loading.proofs.Defined.{loader-known}
@@ -359,10 +358,9 @@ module _ (t : Tables) (l : ℕ) (bs : List ℕ) (sound : broken t ≡ false) whe
         listed = lists;
       }
 
-    pub class-admitted : l < 16 → (d : Plan)
+    pub class-admitted : l < 16 → (d : ClassPlan)
         → Decided d (defined_from l bs room (quick_world t)) (after_define l bs (quick_world t)) t.counts t.ties t.subtypes u v (quick_world t) (class_of l (quick_file bs))
-        → Admitted d (load_define l bs) t size u v
+        → Admitted (added d) (load_define l bs) t size u v
     unfolding Decided Admitted ◌>>=◌
-    class-admitted known (Refuse w) h = admits-refused (load_define l bs) t size u v sound long w (from (refused w) h.0) h.1
-    class-admitted known Keep h = absurd h
-    class-admitted known (Add n) h = class-newly n h known
+    class-admitted known (Err w) h = admits-refused (load_define l bs) t size u v sound long w (from (refused w) h.0) h.1
+    class-admitted known (Ok n) h = class-newly n h known

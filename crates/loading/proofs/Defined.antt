@@ -22,17 +22,19 @@ use Rattle.definition.specs.Reasons.{after_define}
 use Rattle.laws.specs.Options.{bind-at}
 use Rattle.laws.specs.Refusals.{Refuses, on_test, on-take}
 use Rattle.laws.specs.Results.{bind_ok, take-ok}
-use Rattle.classfile.specs.declared.MethodFound.{MethodFound}
-use Rattle.classfile.specs.Reading.{file_version, method_count, method_place, method_in, method_at, method_found, numbered, quick_methods, quick_file}
-use Rattle.classfile.specs.Searches.{numbered-in, method-at, method-absent}
+use Rattle.classfile.specs.Reading.{file_version, method_count, method_place, method_in, method_at, numbered_place, quick_methods, quick_file}
+use Rattle.classfile.specs.Searches.{numbered-in}
 use Rattle.classfile.specs.Laws.{reads-some}
 use Rattle.verifier.specs.Lookups.{unmapped_in}
-use Rattle.verifier.specs.Trace.{verification, posting, class_trace, accepted_notes, granted}
+use Rattle.verifier.specs.Trace.{answered, verification, posting, class_trace, accepted_notes, granted}
 use Rattle.verifier.proofs.PostingLaws.{answer-says}
 use Rattle.verifier.proofs.ClassLaws.{class-says, unmapped-says}
-use Rattle.rows.specs.Posting.{Noted}
-use Rattle.loading.specs.declared.loads.Plan.{Plan}
-use Rattle.loading.specs.Stages.{super_for, posted_for, placed_for, class_ties, new_notes, placed_after, defined_from, define-stages, Decided}
+use Rattle.rows.specs.Posting.{Noted, noted}
+use Rattle.std.specs.Prelude as code
+use Rattle.std.specs.Prelude.{Ok, Err, None, Some}
+use Rattle.cells.specs.Optional.{optional, optional-none, optional-some}
+use Rattle.verifier.specs.declared.Rejected.{Rejected}
+use Rattle.loading.specs.Stages.{ClassPlan, super_for, posted_for, placed_for, class_ties, new_notes, placed_after, defined_from, define-stages, Decided}
 
 -- The superclass
 
@@ -58,21 +60,24 @@ module _ (k : Class) (b : Base) (l n m : ℕ) (el : l ≡ k.loader) (en : n ≡ 
 
 -- A file's method
 
-module _ (bs : List ℕ) (j : ℕ) (h : j < method_count bs) (r : MethodFound) (e : r ≡ method_found bs (numbered (method_count bs) j)) where
-  pub method-there : r ≡ MethodFound.Absent → ⊥
+module _ (bs : List ℕ) (j : ℕ) (h : j < method_count bs) (r : code.Option ℕ) (e : r ≡ optional (numbered_place bs j)) where
+  pub method-there : r ≡ None → ⊥
   method-there q =
-      let z : ◌≡◌ {A = ℕ} 0 1 = cc (method-absent bs (numbered (method_count bs) j) (sym e ∙ q), numbered-in (method_count bs) j h) in
+      let z : ◌≡◌ {A = ℕ} 0 1 = cc (optional-none (numbered_place bs j) (sym e ∙ q), numbered-in bs j h) in
       omega arith
 
   -- the signature at its place is its own
-  pub method-signed : (i p : ℕ) (g : Signature) → r ≡ MethodFound.At i p → g ≡ (method_at bs p).signature → g ≡ (method_in bs j).signature
+  pub method-signed : (p : ℕ) (g : Signature) → r ≡ Some p → g ≡ (method_at bs p).signature → g ≡ (method_in bs j).signature
   unfolding method_in
-  method-signed i p g q eg =
-      let o = method-at bs (numbered (method_count bs) j) i p (sym e ∙ q) in
-      let s : some j ≡ some i = sym (numbered-in (method_count bs) j h) ∙ o.0 in
-      let z : i ≡ j = cc in
-      let w : p ≡ method_place bs j = o.1 ∙ ap (method_place bs) z in
+  method-signed p g q eg =
+      let w : p ≡ method_place bs j = cc (optional-some (numbered_place bs j) p (sym e ∙ q), numbered-in bs j h) in
       eg ∙ ap (λ (y : ℕ). (method_at bs y).signature) w
+
+-- A class that the verifier rejects
+
+pub rejected : (v : code.Result ℕ Rejected) (xs : List ℕ) → ((n : ℕ) → v ≡ Ok n → ⊥) → (r : Noted) × (answered v xs ≡ verification false r)
+rejected (Ok n) xs h = absurd (h n refl)
+rejected (Err r) xs h = (noted xs r.count, refl)
 
 -- The stages joined
 
@@ -109,12 +114,11 @@ module _ (room : Bool) (k : Class) (w : World) (ns : List Note) where
   placed_below p h = rw (sym h)
 
 -- a decision means the same of equal results
-pub decided-same : (d : Plan) {o q : Result World} {a b : Option World} (n t s u v : List ℕ) (w : World) (k : Class) → o ≡ q → a ≡ b → Decided d o a n t s u v w k
+pub decided-same : (d : ClassPlan) {o q : Result World} {a b : Option World} (n t s u v : List ℕ) (w : World) (k : Class) → o ≡ q → a ≡ b → Decided d o a n t s u v w k
     → Decided d q b n t s u v w k
 unfolding Decided
-decided-same (Plan.Refuse r) n t s u v w k e f h = (h.0 ∙ e, h.1)
-decided-same Plan.Keep n t s u v w k e f h = h
-decided-same (Plan.Add new) n t s u v w k e f h = record {
+decided-same (Err r) n t s u v w k e f h = (h.0 ∙ e, h.1)
+decided-same (Ok new) n t s u v w k e f h = record {
   loader = h.loader;
   name = h.name;
   class = h.class;

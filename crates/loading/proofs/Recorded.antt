@@ -40,8 +40,8 @@ use Rattle.entries.specs.Offers.{offered}
 use Rattle.entries.proofs.Calls.{wrap-given}
 use Rattle.entries.proofs.Offers.{reason-after}
 use Rattle.loading.specs.declared.loads.Newcomer.{Newcomer}
-use Rattle.loading.specs.declared.loads.Plan.{Plan}
-use Rattle.loading.specs.declared.loads.Plan.TheVariants.{Refuse, Keep, Add}
+use Rattle.std.specs.Prelude.{Ok, Err, Some, None}
+use Rattle.loading.specs.Stages.{Plan}
 use Rattle.loading.specs.Stages.{judged_world}
 use Rattle.loading.specs.Entering.{Entry, Recorded}
 use Rattle.loading.specs.Writing.{numbers_on, numbers_after, Grown}
@@ -251,12 +251,12 @@ module _ (t : Tables) (l n c : ℕ) (sound : broken t ≡ false) where
 
     pub entry-admitted : c ≤ 64 → (d : Plan) → Recorded d t.counts l n c (quick_world t) → Admitted d (load_record l n c) t size t.ties t.subtypes
     unfolding Recorded Admitted view ◌>>=◌
-    entry-admitted small (Refuse r) h = admits-refused (load_record l n c) t size t.ties t.subtypes sound long r (from (refused r) h.0) h.1
-    entry-admitted small Keep h =
+    entry-admitted small (Err r) h = admits-refused (load_record l n c) t size t.ties t.subtypes sound long r (from (refused r) h.0) h.1
+    entry-admitted small (Ok None) h =
         wrap-given Denied offer t sound Accepted (view t) t
         (whole_by (load_record l n c) t size t.ties t.subtypes sound long _ (from (ok (quick_world t)) h ∙ (ap (λ (w : World). given Accepted (add_entry (view t) w)) (quick-world t sound) ∙ ap (given Accepted) (entry-there (view t)))))
         (put_view t (unbroken t sound).groups)
-    entry-admitted small (Add new) h = entry-newly small new h.0 h.1
+    entry-admitted small (Ok (Some new)) h = entry-newly small new h.0 h.1
 
 -- the name that a class's row gives
 pub name-is : (counts classes kept : List ℕ) (c : ℕ) → c < get_or counts 0 0 → name_in counts classes kept c ≡ (quick_class kept (class_row_at classes c)).name

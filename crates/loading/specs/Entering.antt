@@ -8,8 +8,8 @@ use Rattle.resolution.specs.Quick.{quick_base}
 use Rattle.entries.specs.World.{world}
 use Rattle.loading.specs.Stages.{judged_world}
 use Rattle.loading.specs.declared.loads.Newcomer.{Newcomer}
-use Rattle.loading.specs.declared.loads.Plan.{Plan}
-use Rattle.loading.specs.declared.loads.Plan.TheVariants.{Refuse, Keep, Add}
+use Rattle.std.specs.Prelude.{Ok, Err, Some, None}
+use Rattle.loading.specs.Stages.{Plan}
 
 -- what the newcomer is: that entry, of a class that is there, without constraints of its own
 pub record Entry (counts : List ℕ) (l n c : ℕ) (new : Newcomer) : Type 0 where
@@ -23,9 +23,9 @@ pub record Entry (counts : List ℕ) (l n c : ℕ) (new : Newcomer) : Type 0 whe
 
 -- what is decided of it, whatever the constraints, once loader, name and class are known
 unfoldable pub Recorded : Plan → List ℕ → ℕ → ℕ → ℕ → World → Type 0
-Recorded (Refuse r) counts l n c w = (refused r ≡ recorded l n c w) × (number r ≡ 9 → ⊥)
-Recorded Keep counts l n c w = ok w ≡ recorded l n c w
-Recorded (Add new) counts l n c w = (judged_world (with_entry w (at l n) c) ≡ recorded l n c w) × Entry counts l n c new
+Recorded (Err r) counts l n c w = (refused r ≡ recorded l n c w) × (number r ≡ 9 → ⊥)
+Recorded (Ok None) counts l n c w = ok w ≡ recorded l n c w
+Recorded (Ok (Some new)) counts l n c w = (judged_world (with_entry w (at l n) c) ≡ recorded l n c w) × Entry counts l n c new
 
 abbrev pub Enters : Plan → List ℕ → List ℕ → List ℕ → List ℕ → ℕ → ℕ → ℕ → Type 0
 Enters p counts classes kept cache l n c = (ts : List Tie) (ss : List Subtype) → l < 16 → 2 ≤ n → Recorded p counts l n c (world (quick_base counts classes kept cache) ts ss)

@@ -24,8 +24,8 @@ use Rattle.entries.specs.Entering.{Tried}
 use Rattle.entries.specs.Offers.{offered}
 use Rattle.loading.specs.declared.loads.Load as coded
 use Rattle.loading.specs.declared.loads.Newcomer.{Newcomer}
-use Rattle.loading.specs.declared.loads.Plan.{Plan}
-use Rattle.loading.specs.declared.loads.Plan.TheVariants.{Refuse, Keep, Add}
+use Rattle.std.specs.Prelude.{Ok, Err, Some, None}
+use Rattle.loading.specs.Stages.{Plan, ClassPlan}
 use Rattle.loading.specs.Posting.{tried_ties_length}
 use Rattle.entries.specs.Remembering.{remembered_in}
 use Rattle.loading.specs.Writing.{numbers_on, numbers_after, Grown}
@@ -154,9 +154,14 @@ pub record Newly (c : Load) (t : Tables) (size : ℕ) (u v : List ℕ) (n : Newc
       ≡ reason_after (view t) (after_load c (world_of (view t)))
 
 unfoldable pub Admitted : Plan → Load → Tables → ℕ → List ℕ → List ℕ → Type 0
-Admitted (Refuse r) c t size u v = (done (Denied r) t ≡ wrap Denied (offered size c) t) × (number r ≡ 9 → ⊥)
-Admitted Keep c t size u v = done Accepted t ≡ wrap Denied (offered size c) t
-Admitted (Add n) c t size u v = Newly c t size u v n
+Admitted (Err r) c t size u v = (done (Denied r) t ≡ wrap Denied (offered size c) t) × (number r ≡ 9 → ⊥)
+Admitted (Ok None) c t size u v = done Accepted t ≡ wrap Denied (offered size c) t
+Admitted (Ok (Some n)) c t size u v = Newly c t size u v n
+
+-- of a class
+abbrev pub added : ClassPlan → Plan
+added (Err r) = Err r
+added (Ok n) = Ok (Some n)
 
 -- what is decided of it: carried out, it is the load that is offered
 
@@ -165,9 +170,9 @@ pub record Adding (c : Load) (t : Tables) (size : ℕ) (u v : List ℕ) (n : New
   pub whole : done (new_reply n) (written c n t u v) ≡ wrap Denied (offered size c) t
 
 unfoldable pub Planned : Plan → Load → Tables → ℕ → List ℕ → List ℕ → Type 0
-Planned (Refuse r) c t size u v = done (Denied r) t ≡ wrap Denied (offered size c) t
-Planned Keep c t size u v = done Accepted t ≡ wrap Denied (offered size c) t
-Planned (Add n) c t size u v = Adding c t size u v n
+Planned (Err r) c t size u v = done (Denied r) t ≡ wrap Denied (offered size c) t
+Planned (Ok None) c t size u v = done Accepted t ≡ wrap Denied (offered size c) t
+Planned (Ok (Some n)) c t size u v = Adding c t size u v n
 
 -- so it is of a load for which the plan p was admitted
 abbrev pub Decides : Load → List ℕ → List ℕ → List ℕ → List ℕ → List ℕ → List ℕ → Plan → Plan → Type 0
@@ -190,23 +195,23 @@ Offers c counts classes kept cache u v p list a k out = (ties subtypes objects f
 -- where the groups g beside the ties u of a newcomer are right
 
 unfoldable pub Grouping : Plan → List ℕ → List ℕ → Type 0
-Grouping (Refuse r) u g = Unit {0}
-Grouping Keep u g = Unit {0}
-Grouping (Add n) u g = Beside u g n.tied
+Grouping (Err r) u g = Unit {0}
+Grouping (Ok None) u g = Unit {0}
+Grouping (Ok (Some n)) u g = Beside u g n.tied
 
 -- a plan that posts no tie
 unfoldable pub PostsNone : Plan → List ℕ → Type 0
-PostsNone (Refuse r) counts = Unit {0}
-PostsNone Keep counts = Unit {0}
-PostsNone (Add n) counts = n.tied ≡ get_or counts 3 0
+PostsNone (Err r) counts = Unit {0}
+PostsNone (Ok None) counts = Unit {0}
+PostsNone (Ok (Some n)) counts = n.tied ≡ get_or counts 3 0
 
 -- as they are once made of ties that lie between loaders
 unfoldable pub Made : Plan → List ℕ → List ℕ → Type 0
-Made (Refuse r) u g = Unit {0}
-Made Keep u g = Unit {0}
-Made (Add n) u g = n.tied ≤ 256 → all tie_fits (rows (tie_at u) n.tied 0) ≡ true → Beside u g n.tied
+Made (Err r) u g = Unit {0}
+Made (Ok None) u g = Unit {0}
+Made (Ok (Some n)) u g = n.tied ≤ 256 → all tie_fits (rows (tie_at u) n.tied 0) ≡ true → Beside u g n.tied
 
 unfoldable pub Ready : List ℕ → List ℕ → List ℕ → List ℕ → Plan → Type 0
-Ready counts classes kept cache (Refuse r) = Unit {0}
-Ready counts classes kept cache Keep = Unit {0}
-Ready counts classes kept cache (Add n) = Sized counts classes kept cache n
+Ready counts classes kept cache (Err r) = Unit {0}
+Ready counts classes kept cache (Ok None) = Unit {0}
+Ready counts classes kept cache (Ok (Some n)) = Sized counts classes kept cache n

@@ -1,5 +1,7 @@
 -- define in stages, each of which may refuse: what a function of its own decides.
 use Rattle.std.specs.Prelude.{◌≡◌, refl, Bool, true, false, not, List, [], ◌∷◌, ◌++◌, ℕ, suc, ◌+◌, ◌<◌, ◌≤◌, length, get_or, take, leb, ltb}
+use Rattle.std.specs.Prelude as code
+use Rattle.std.specs.Prelude.{Ok, Err}
 use Rattle.std.proofs.Common.{ap}
 use Rattle.std.proofs.Math.Option.{Option, none, some}
 use Rattle.definition.specs.Tables.{tie_at, put_tie, subtype_at, put_subtype}
@@ -8,25 +10,28 @@ use Rattle.definition.specs.Requests.{at}
 use Rattle.definition.specs.Classes.{Base, Class, find, slots}
 use Rattle.definition.specs.Constraints.{World, Tie, Subtype, agrees}
 use Rattle.definition.specs.Verifier.{Note, unmapped, notes_of}
+use Rattle.definition.specs.declared.Refusal.{Refusal}
 use Rattle.definition.specs.declared.Refusal.TheVariants.{Word}
 use Rattle.definition.specs.Answers.{wanted, Result, refused, ok, number, ◌>>=◌, need, take?}
 use Rattle.definition.specs.File.{read_file, class_of}
 use Rattle.definition.specs.Loading.{override_ties, new_subtypes, with_class, define}
 use Rattle.classfile.specs.Reading.{field_count}
 use Rattle.entries.specs.World.{world, base_with}
-use Rattle.loading.specs.declared.superclasses.Above.{Above}
 use Rattle.loading.specs.declared.loads.Newcomer.{Newcomer}
-use Rattle.loading.specs.declared.loads.Plan.{Plan}
+
+-- What is decided of a load: a refusal, that nothing changes, or what is to be added; of a class it is one of the two others
+
+abbrev pub Plan : Type 0
+Plan = code.Result (code.Option Newcomer) Refusal
+
+abbrev pub ClassPlan : Type 0
+ClassPlan = code.Result Newcomer Refusal
 
 -- define: the direct superclass. Refusals: 4 5
 unfoldable pub super_for : Class → Base → Result ℕ
 super_for k b =
     need (is_none (find b.cache (at k.loader k.name))) (Word 4) >>= λ _.
     take? (find b.cache (at k.loader k.super)) (wanted (at k.loader k.super))
-
-unfoldable pub above_of : Above → Result ℕ
-above_of (Above.Class p) = ok p
-above_of (Above.Refuse r) = refused r
 
 -- a store that has room, judged by agreement
 unfoldable pub judged_world : World → Result World
@@ -113,7 +118,6 @@ pub record Placing (o : Result World) (a : Option World) (w : World) (k : Class)
   pub class_room : get_or n 0 0 < 64
   pub entry_room : get_or n 2 0 < 256
 
-unfoldable pub Decided : Plan → Result World → Option World → List ℕ → List ℕ → List ℕ → List ℕ → List ℕ → World → Class → Type 0
-Decided (Plan.Refuse r) o a n t s u v w k = (refused r ≡ o) × (number r ≡ 9 → ⊥)
-Decided Plan.Keep o a n t s u v w k = ⊥
-Decided (Plan.Add new) o a n t s u v w k = Placing o a w k n t s u v new
+unfoldable pub Decided : ClassPlan → Result World → Option World → List ℕ → List ℕ → List ℕ → List ℕ → List ℕ → World → Class → Type 0
+Decided (Err r) o a n t s u v w k = (refused r ≡ o) × (number r ≡ 9 → ⊥)
+Decided (Ok new) o a n t s u v w k = Placing o a w k n t s u v new

@@ -14,24 +14,21 @@ ghost use Rattle.loading.specs.Plans.{load_of, held, Lent, known, Admitted};
 
 use crate::constraining::admit_constraints;
 use crate::loads::{Load, Newcomer, Plan};
-use crate::superclasses::{Above, find_super};
+use crate::superclasses::find_super;
 use definition::Refusal;
 use definition::numbers::{
     CACHE_LIMIT, COUNT_CACHE, COUNT_SUBTYPES, COUNT_TIES, LIST_LIMIT, LOADER_LIMIT, NAME_OBJECT,
     WORD_BROKEN, WORD_FILE, WORD_FULL, WORD_MISNAMED, WORD_SHORT, WORD_TAKEN, WORD_UNKNOWN,
     WORD_UNMAPPED, WORD_UNVERIFIED,
 };
-use resolution::Found;
+use resolution::Base;
 
 // The least name of a class, as a number that the host gives.
 const LEAST_CLASS_NAME: u32 = NAME_OBJECT as u32;
 
 // The superclass, then the constraints, of a file that was read and verified, and whose notes stand in a copy of the subtype constraints.
 fn admit_class(
-    counts: &[u16],
-    classes: &[u16],
-    kept: &[u8],
-    cache: &[u16],
+    base: &Base,
     ties: &[u16],
     subtypes: &[u16],
     loader: u8,
@@ -39,113 +36,92 @@ fn admit_class(
     new_ties: &mut [u16],
     new_subtypes: &[u16],
     noted: u16,
-) -> Plan
-    requires { Loadable counts.now classes.now kept.now cache.now ties.now subtypes.now × (length file.now ≤ file_limit) × (method_count file.now ≤ member_limit) × (length new_ties.old ≡ tried_ties_length) }
-    ensures { (ns : List Note) → NotesPosted ns loader subtypes.now (get_or counts.now count_subtypes 0) new_subtypes.now noted → Decided result (placed_for (leb (get_or counts.now count_kept 0 + length file.now) kept_limit) (class_of loader (quick_file file.now)) (world_in counts.now classes.now kept.now cache.now ties.now subtypes.now) ns) (placed_after (class_of loader (quick_file file.now)) (world_in counts.now classes.now kept.now cache.now ties.now subtypes.now) ns) counts.now ties.now subtypes.now new_ties.new new_subtypes.now (world_in counts.now classes.now kept.now cache.now ties.now subtypes.now) (class_of loader (quick_file file.now)) }
+) -> Result<Newcomer, Refusal>
+    requires { Loadable base.now.counts.now base.now.classes.now base.now.kept.now base.now.cache.now ties.now subtypes.now × (length file.now ≤ file_limit) × (method_count file.now ≤ member_limit) × (length new_ties.old ≡ tried_ties_length) }
+    ensures { (ns : List Note) → NotesPosted ns loader subtypes.now (get_or base.now.counts.now count_subtypes 0) new_subtypes.now noted → Decided result (placed_for (leb (get_or base.now.counts.now count_kept 0 + length file.now) kept_limit) (class_of loader (quick_file file.now)) (world_in base.now.counts.now base.now.classes.now base.now.kept.now base.now.cache.now ties.now subtypes.now) ns) (placed_after (class_of loader (quick_file file.now)) (world_in base.now.counts.now base.now.classes.now base.now.kept.now base.now.cache.now ties.now subtypes.now) ns) base.now.counts.now ties.now subtypes.now new_ties.new new_subtypes.now (world_in base.now.counts.now base.now.classes.now base.now.kept.now base.now.cache.now ties.now subtypes.now) (class_of loader (quick_file file.now)) }
 {
-    let above = find_super(counts, classes, kept, cache, loader, file);
-    match above {
-        Above::Refuse(r) => Plan::Refuse(r),
-        Above::Class(p) => admit_constraints(
-            counts,
-            classes,
-            kept,
-            cache,
-            ties,
-            subtypes,
-            loader,
-            file,
-            p,
-            new_ties,
-            new_subtypes,
-            noted,
-        ),
-    }
+    let p = find_super(base, loader, file)?;
+    admit_constraints(
+        base,
+        ties,
+        subtypes,
+        loader,
+        file,
+        p,
+        new_ties,
+        new_subtypes,
+        noted,
+    )
 }
 
 // The file rules, then the verifier, whose notes are posted to a copy of the subtype constraints, then the class.
 fn admit_file(
-    counts: &[u16],
-    classes: &[u16],
-    kept: &[u8],
-    cache: &[u16],
+    base: &Base,
     ties: &[u16],
     subtypes: &[u16],
     loader: u8,
     file: &[u8],
     new_ties: &mut [u16],
     new_subtypes: &mut [u16],
-) -> Plan
-    requires { Loadable counts.now classes.now kept.now cache.now ties.now subtypes.now × (loader < loader_limit) × (length new_ties.old ≡ tried_ties_length) × (length new_subtypes.old ≡ subtypes_length) }
-    ensures { Decided result (defined_from loader file.now (leb (get_or counts.now count_kept 0 + length file.now) kept_limit) (world_in counts.now classes.now kept.now cache.now ties.now subtypes.now)) (after_define loader file.now (world_in counts.now classes.now kept.now cache.now ties.now subtypes.now)) counts.now ties.now subtypes.now new_ties.new new_subtypes.new (world_in counts.now classes.now kept.now cache.now ties.now subtypes.now) (class_of loader (quick_file file.now)) }
+) -> Result<Newcomer, Refusal>
+    requires { Loadable base.now.counts.now base.now.classes.now base.now.kept.now base.now.cache.now ties.now subtypes.now × (loader < loader_limit) × (length new_ties.old ≡ tried_ties_length) × (length new_subtypes.old ≡ subtypes_length) }
+    ensures { Decided result (defined_from loader file.now (leb (get_or base.now.counts.now count_kept 0 + length file.now) kept_limit) (world_in base.now.counts.now base.now.classes.now base.now.kept.now base.now.cache.now ties.now subtypes.now)) (after_define loader file.now (world_in base.now.counts.now base.now.classes.now base.now.kept.now base.now.cache.now ties.now subtypes.now)) base.now.counts.now ties.now subtypes.now new_ties.new new_subtypes.new (world_in base.now.counts.now base.now.classes.now base.now.kept.now base.now.cache.now ties.now subtypes.now) (class_of loader (quick_file file.now)) }
 {
     if !classfile::reads(file) {
-        return Plan::Refuse(Refusal::Word(WORD_FILE));
+        return Err(Refusal::Word(WORD_FILE));
     }
     if verifier::is_class_unmapped(file) {
-        return Plan::Refuse(Refusal::Word(WORD_UNMAPPED));
+        return Err(Refusal::Word(WORD_UNMAPPED));
     }
     entries::write_cells(new_subtypes, 0, subtypes);
-    let count = cells::at(counts, COUNT_SUBTYPES);
-    let verified = verifier::verify_class(file, loader, new_subtypes, count);
-    if !verified.accepts {
-        return Plan::Refuse(Refusal::Word(WORD_UNVERIFIED));
-    }
+    let count = cells::at(base.counts, COUNT_SUBTYPES);
+    let Ok(noted) = verifier::verify_class(file, loader, new_subtypes, count) else {
+        return Err(Refusal::Word(WORD_UNVERIFIED));
+    };
     admit_class(
-        counts,
-        classes,
-        kept,
-        cache,
+        base,
         ties,
         subtypes,
         loader,
         file,
         new_ties,
         new_subtypes,
-        verified.count,
+        noted,
     )
 }
 
 // The entry of a class that is there: its name, what is cached, and the limit.
-fn admit_entry(
-    counts: &[u16],
-    classes: &[u16],
-    kept: &[u8],
-    cache: &[u16],
-    loader: u8,
-    name: u32,
-    class: u16,
-) -> Plan
-    requires { class < get_or counts.now count_classes 0 }
-    ensures { Enters result counts.now classes.now kept.now cache.now loader name class }
+fn admit_entry(base: &Base, loader: u8, name: u32, class: u16) -> Plan
+    requires { class < get_or base.now.counts.now count_classes 0 }
+    ensures { Enters result base.now.counts.now base.now.classes.now base.now.kept.now base.now.cache.now loader name class }
 {
-    let own = resolution::name_of(counts, classes, kept, u32::from(class));
+    let own = base.name_of(u32::from(class));
     if u32::from(own) != name {
-        return Plan::Refuse(Refusal::Word(WORD_MISNAMED));
+        return Err(Refusal::Word(WORD_MISNAMED));
     }
-    let found = resolution::find(counts, cache, u16::from(loader), own);
-    if let Found::At(d) = found {
+    let found = base.find(u16::from(loader), own);
+    if let Some(d) = found {
         if d == u32::from(class) {
-            return Plan::Keep;
+            return Ok(None);
         }
-        return Plan::Refuse(Refusal::Word(WORD_TAKEN));
+        return Err(Refusal::Word(WORD_TAKEN));
     }
-    if CACHE_LIMIT <= cells::at(counts, COUNT_CACHE) {
-        return Plan::Refuse(Refusal::Word(WORD_FULL));
+    if CACHE_LIMIT <= cells::at(base.counts, COUNT_CACHE) {
+        return Err(Refusal::Word(WORD_FULL));
     }
-    Plan::Add(Newcomer {
+    Ok(Some(Newcomer {
         loader,
         name: own,
         class,
         above: 0,
-        tied: cells::at(counts, COUNT_TIES),
-        noted: cells::at(counts, COUNT_SUBTYPES),
-    })
+        tied: cells::at(base.counts, COUNT_TIES),
+        noted: cells::at(base.counts, COUNT_SUBTYPES),
+    }))
 }
 
 // The numbers of a load are a loader's, the name of a class, and a class's.
-fn is_known(counts: &[u16], load: Load) -> bool
-    ensures { result ≡ known load counts.now }
+fn is_known(base: &Base, load: Load) -> bool
+    ensures { result ≡ known load base.now.counts.now }
 {
     match load {
         Load::Define(loader) => loader < LOADER_LIMIT,
@@ -156,7 +132,7 @@ fn is_known(counts: &[u16], load: Load) -> bool
             if name < LEAST_CLASS_NAME {
                 return false;
             }
-            resolution::is_class(counts, class)
+            base.is_class(class)
         }
     }
 }
@@ -184,35 +160,33 @@ pub(crate) fn admit(
     if store::is_broken(
         counts, classes, kept, cache, ties, subtypes, objects, frames,
     ) {
-        return Plan::Refuse(Refusal::Word(WORD_BROKEN));
+        return Err(Refusal::Word(WORD_BROKEN));
     }
-    if !is_known(counts, load) {
-        return Plan::Refuse(Refusal::Word(WORD_UNKNOWN));
+    let base = Base {
+        counts,
+        classes,
+        kept,
+        cache,
+    };
+    if !is_known(&base, load) {
+        return Err(Refusal::Word(WORD_UNKNOWN));
     }
     if size < LIST_LIMIT {
-        return Plan::Refuse(Refusal::Word(WORD_SHORT));
+        return Err(Refusal::Word(WORD_SHORT));
     }
     match load {
-        Load::Define(loader) => admit_file(
-            counts,
-            classes,
-            kept,
-            cache,
-            ties,
-            subtypes,
-            loader as u8,
-            file,
-            new_ties,
-            new_subtypes,
-        ),
-        Load::Record(loader, name, class) => admit_entry(
-            counts,
-            classes,
-            kept,
-            cache,
-            loader as u8,
-            name,
-            class as u16,
-        ),
+        Load::Define(loader) => {
+            let n = admit_file(
+                &base,
+                ties,
+                subtypes,
+                loader as u8,
+                file,
+                new_ties,
+                new_subtypes,
+            )?;
+            Ok(Some(n))
+        }
+        Load::Record(loader, name, class) => admit_entry(&base, loader as u8, name, class as u16),
     }
 }

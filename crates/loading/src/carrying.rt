@@ -45,7 +45,7 @@ pub(crate) fn enter(counts: &mut [u16], cache: &mut [u16], n: Newcomer, classes:
     ensures written { cache.new ≡ put_three cache.old (get_or counts.old count_cache 0) n.loader n.name n.class }
 {
     let row = cells::at(counts, COUNT_CACHE);
-    entries::put_three(cache, row, u16::from(n.loader), n.name, n.class);
+    cells::put_three(cache, u32::from(row), u16::from(n.loader), n.name, n.class);
     entries::remember(counts);
     write_counts(counts, &[classes, kept, row + 1, n.tied, n.noted]);
 }
@@ -90,14 +90,14 @@ pub(crate) fn write_class(
     ensures noted { subtypes.new ≡ write_rows set new_subtypes.now 0 subtypes.old }
 {
     let start = cells::at(counts, COUNT_KEPT);
-    entries::put_three(
+    cells::put_three(
         classes,
-        cells::at(counts, COUNT_CLASSES),
+        u32::from(cells::at(counts, COUNT_CLASSES)),
         u16::from(loader),
         start,
         file.len() as u16,
     );
-    entries::write_bytes(kept, start, file);
+    entries::write_cells(kept, start, file);
     entries::write_cells(ties, 0, new_ties);
     entries::write_cells(subtypes, 0, new_subtypes);
 }

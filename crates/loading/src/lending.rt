@@ -8,6 +8,7 @@ use crate::loads::Plan;
 use crate::trying::{decide, offer};
 use definition::Trial;
 use definition::numbers::{COUNT_TIES, GROUPS_CELL, TIE_LIMIT};
+use resolution::Base;
 
 // The groups of a newcomer's ties.
 fn group_ties(ties: &[u16], plan: Plan, groups: &mut [u16])
@@ -15,11 +16,13 @@ fn group_ties(ties: &[u16], plan: Plan, groups: &mut [u16])
     ensures { Made plan ties.now groups.new }
 {
     match plan {
-        Plan::Refuse(_) => {}
-        Plan::Keep => {}
-        Plan::Add(n) => {
-            groups::group_rows(ties, n.tied, groups);
-        }
+        Err(_) => {}
+        Ok(planned) => match planned {
+            None => {}
+            Some(n) => {
+                groups::group_rows(ties, n.tied, groups);
+            }
+        },
     }
 }
 
@@ -27,12 +30,7 @@ fn group_ties(ties: &[u16], plan: Plan, groups: &mut [u16])
 fn stored_groups(counts: &[u16]) -> &[u16]
     ensures { result.now ≡ drop groups_cell counts.now }
 {
-    let count = counts.len();
-    if count < GROUPS_CELL {
-        return &counts[count..];
-    }
-    let start = GROUPS_CELL;
-    &counts[start..]
+    &counts[GROUPS_CELL.min(counts.len())..]
 }
 
 // No tie is posted.
@@ -40,109 +38,59 @@ fn posts_none(counts: &[u16], plan: Plan) -> bool
     ensures { result ≡ true → PostsNone plan counts.now }
 {
     match plan {
-        Plan::Refuse(_) => true,
-        Plan::Keep => true,
-        Plan::Add(n) => n.tied == cells::at(counts, COUNT_TIES),
+        Err(_) => true,
+        Ok(planned) => match planned {
+            None => true,
+            Some(n) => n.tied == cells::at(counts, COUNT_TIES),
+        },
     }
 }
 
 // What an admitted define comes to. Where it posts no tie, the groups of its ties are the stored ones.
-pub(crate) fn decide_class(
-    counts: &[u16],
-    classes: &[u16],
-    kept: &[u8],
-    cache: &[u16],
-    ties: &[u16],
-    subtypes: &[u16],
-    plan: Plan,
-) -> Plan
-    ensures { (l : ℕ) (bs : List ℕ) → Decides (load_define l bs) counts.now classes.now kept.now cache.now ties.now subtypes.now plan result }
+pub(crate) fn decide_class(base: &Base, ties: &[u16], subtypes: &[u16], plan: Plan) -> Plan
+    ensures { (l : ℕ) (bs : List ℕ) → Decides (load_define l bs) base.now.counts.now base.now.classes.now base.now.kept.now base.now.cache.now ties.now subtypes.now plan result }
 {
-    if posts_none(counts, plan) {
-        return decide(
-            counts,
-            classes,
-            kept,
-            cache,
-            ties,
-            stored_groups(counts),
-            subtypes,
-            plan,
-        );
+    if posts_none(base.counts, plan) {
+        return decide(base, ties, stored_groups(base.counts), subtypes, plan);
     }
     let mut groups = [0u16; TIE_LIMIT as usize];
     group_ties(ties, plan, &mut groups);
-    decide(counts, classes, kept, cache, ties, &groups, subtypes, plan)
+    decide(base, ties, &groups, subtypes, plan)
 }
 
 // What an admitted record comes to.
-pub(crate) fn decide_entry(
-    counts: &[u16],
-    classes: &[u16],
-    kept: &[u8],
-    cache: &[u16],
-    ties: &[u16],
-    subtypes: &[u16],
-    plan: Plan,
-) -> Plan
-    ensures { (l m k : ℕ) → Decides (load_record l m k) counts.now classes.now kept.now cache.now ties.now subtypes.now plan result }
+pub(crate) fn decide_entry(base: &Base, ties: &[u16], subtypes: &[u16], plan: Plan) -> Plan
+    ensures { (l m k : ℕ) → Decides (load_record l m k) base.now.counts.now base.now.classes.now base.now.kept.now base.now.cache.now ties.now subtypes.now plan result }
 {
-    decide(
-        counts,
-        classes,
-        kept,
-        cache,
-        ties,
-        stored_groups(counts),
-        subtypes,
-        plan,
-    )
+    decide(base, ties, stored_groups(base.counts), subtypes, plan)
 }
 
 // What the try of a define answers.
 pub(crate) fn offer_class(
-    counts: &[u16],
-    classes: &[u16],
-    kept: &[u8],
-    cache: &[u16],
+    base: &Base,
     ties: &[u16],
     subtypes: &[u16],
     plan: Plan,
     list: &mut [u16],
 ) -> Trial
-    requires { Ready counts.now classes.now kept.now cache.now plan }
-    ensures { (l : ℕ) (bs : List ℕ) → Offers (load_define l bs) counts.now classes.now kept.now cache.now ties.now subtypes.now plan list.old result.reply result.count list.new }
+    requires { Ready base.now.counts.now base.now.classes.now base.now.kept.now base.now.cache.now plan }
+    ensures { (l : ℕ) (bs : List ℕ) → Offers (load_define l bs) base.now.counts.now base.now.classes.now base.now.kept.now base.now.cache.now ties.now subtypes.now plan list.old result.reply result.count list.new }
 {
     let mut groups = [0u16; TIE_LIMIT as usize];
     group_ties(ties, plan, &mut groups);
-    offer(
-        counts, classes, kept, cache, ties, &groups, subtypes, plan, list,
-    )
+    offer(base, ties, &groups, subtypes, plan, list)
 }
 
 // What the try of a record answers.
 pub(crate) fn offer_entry(
-    counts: &[u16],
-    classes: &[u16],
-    kept: &[u8],
-    cache: &[u16],
+    base: &Base,
     ties: &[u16],
     subtypes: &[u16],
     plan: Plan,
     list: &mut [u16],
 ) -> Trial
-    requires { Ready counts.now classes.now kept.now cache.now plan }
-    ensures { (l m k : ℕ) → Offers (load_record l m k) counts.now classes.now kept.now cache.now ties.now subtypes.now plan list.old result.reply result.count list.new }
+    requires { Ready base.now.counts.now base.now.classes.now base.now.kept.now base.now.cache.now plan }
+    ensures { (l m k : ℕ) → Offers (load_record l m k) base.now.counts.now base.now.classes.now base.now.kept.now base.now.cache.now ties.now subtypes.now plan list.old result.reply result.count list.new }
 {
-    offer(
-        counts,
-        classes,
-        kept,
-        cache,
-        ties,
-        stored_groups(counts),
-        subtypes,
-        plan,
-        list,
-    )
+    offer(base, ties, stored_groups(base.counts), subtypes, plan, list)
 }

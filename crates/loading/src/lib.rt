@@ -24,7 +24,8 @@ use definition::numbers::{
 };
 use definition::{Refusal, Reply, Trial};
 use lending::{decide_class, decide_entry, offer_class, offer_entry};
-use loads::{Load, Plan};
+use loads::Load;
+use resolution::Base;
 
 // Cells for all ties that may be there and five more for each method of a file.
 const TRIED_TIES_LENGTH: usize = (TIE_LIMIT as usize + 5 * MEMBER_LIMIT as usize) * ROW_CELLS;
@@ -49,8 +50,8 @@ pub fn boot(
     }
     entries::write_cells(counts, 0, &[1, 0, 1, 0, 0, 0, 0, 0]);
     cells::put(counts, LOADS_CELL, 0);
-    entries::put_three(classes, 0, 0, 0, 0);
-    entries::put_three(cache, 0, 0, NAME_OBJECT, 0);
+    cells::put_three(classes, 0, 0, 0, 0);
+    cells::put_three(cache, 0, 0, NAME_OBJECT, 0);
     Reply::Accepted
 }
 
@@ -115,35 +116,35 @@ pub fn define(
         &mut new_ties,
         &mut new_subtypes,
     );
-    let plan = decide_class(
+    let base = Base {
         counts,
         classes,
         kept,
         cache,
-        &new_ties,
-        &new_subtypes,
-        admitted,
-    );
+    };
+    let plan = decide_class(&base, &new_ties, &new_subtypes, admitted);
     match plan {
-        Plan::Refuse(r) => Reply::Denied(r),
-        Plan::Keep => Reply::Accepted,
-        Plan::Add(n) => {
-            write_class(
-                counts,
-                classes,
-                kept,
-                ties,
-                subtypes,
-                n.loader,
-                file,
-                &new_ties[0..TIES_LENGTH],
-                &new_subtypes,
-            );
-            let number = cells::at(counts, COUNT_CLASSES) + 1;
-            let end = cells::at(counts, COUNT_KEPT) + file.len() as u16;
-            enter_class(counts, cache, ties, n, number, end);
-            reply_of(n)
-        }
+        Err(r) => Reply::Denied(r),
+        Ok(planned) => match planned {
+            None => Reply::Accepted,
+            Some(n) => {
+                write_class(
+                    counts,
+                    classes,
+                    kept,
+                    ties,
+                    subtypes,
+                    n.loader,
+                    file,
+                    &new_ties[0..TIES_LENGTH],
+                    &new_subtypes,
+                );
+                let number = cells::at(counts, COUNT_CLASSES) + 1;
+                let end = cells::at(counts, COUNT_KEPT) + file.len() as u16;
+                enter_class(counts, cache, ties, n, number, end);
+                reply_of(n)
+            }
+        },
     }
 }
 
@@ -183,16 +184,24 @@ pub fn record(
         &mut no_ties,
         &mut no_subtypes,
     );
-    let plan = decide_entry(counts, classes, kept, cache, ties, subtypes, admitted);
+    let base = Base {
+        counts,
+        classes,
+        kept,
+        cache,
+    };
+    let plan = decide_entry(&base, ties, subtypes, admitted);
     match plan {
-        Plan::Refuse(r) => Reply::Denied(r),
-        Plan::Keep => Reply::Accepted,
-        Plan::Add(n) => {
-            let number = cells::at(counts, COUNT_CLASSES);
-            let end = cells::at(counts, COUNT_KEPT);
-            enter(counts, cache, n, number, end);
-            reply_of(n)
-        }
+        Err(r) => Reply::Denied(r),
+        Ok(planned) => match planned {
+            None => Reply::Accepted,
+            Some(n) => {
+                let number = cells::at(counts, COUNT_CLASSES);
+                let end = cells::at(counts, COUNT_KEPT);
+                enter(counts, cache, n, number, end);
+                reply_of(n)
+            }
+        },
     }
 }
 
@@ -230,16 +239,13 @@ pub fn try_define(
         &mut new_ties,
         &mut new_subtypes,
     );
-    offer_class(
+    let base = Base {
         counts,
         classes,
         kept,
         cache,
-        &new_ties,
-        &new_subtypes,
-        admitted,
-        list,
-    )
+    };
+    offer_class(&base, &new_ties, &new_subtypes, admitted, list)
 }
 
 // An entry tried: what record would answer, and on a clash why, in the list. No table is written. Refusals: 1 3 16 13 4 10 9
@@ -278,5 +284,11 @@ pub fn try_record(
         &mut no_ties,
         &mut no_subtypes,
     );
-    offer_entry(counts, classes, kept, cache, ties, subtypes, admitted, list)
+    let base = Base {
+        counts,
+        classes,
+        kept,
+        cache,
+    };
+    offer_entry(&base, ties, subtypes, admitted, list)
 }

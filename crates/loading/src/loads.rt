@@ -21,9 +21,4 @@ pub(crate) struct Newcomer {
 }
 
 // What is decided of a load: it is refused, it changes nothing, or a newcomer is to be added.
-#[derive(Clone, Copy)]
-pub(crate) enum Plan {
-    Refuse(Refusal),
-    Keep,
-    Add(Newcomer),
-}
+pub(crate) type Plan = Result<Option<Newcomer>, Refusal>;

@@ -12,25 +12,14 @@ use definition::numbers::{
     WORD_CLASH,
 };
 use definition::{Refusal, Reply, Trial};
+use resolution::Base;
 
 // The store with a newcomer, on copies: its counts and its cache, and the direct superclasses.
-fn try_newcomer(
-    counts: &[u16],
-    classes: &[u16],
-    kept: &[u8],
-    cache: &[u16],
-    n: Newcomer,
-    counted: &mut [u16],
-    trial: &mut [u16],
-    supers: &mut [u8],
-)
-    ensures { NewTried counts.now classes.now kept.now cache.now n counted.old trial.old supers.old counted.new trial.new supers.new }
+fn try_newcomer(base: &Base, n: Newcomer, counted: &mut [u16], trial: &mut [u16], supers: &mut [u8])
+    ensures { NewTried base.now.counts.now base.now.classes.now base.now.kept.now base.now.cache.now n counted.old trial.old supers.old counted.new trial.new supers.new }
 {
     entries::try_entry(
-        counts,
-        classes,
-        kept,
-        cache,
+        base,
         u16::from(n.loader),
         n.name,
         n.class,
@@ -46,10 +35,7 @@ fn try_newcomer(
 // Whether the store with the newcomer agrees, where these tables of constraints hold its own, with the groups beside the ties: it is built on the copies and looked
 // at. Of the counts as many are copied as there is room for.
 fn judge(
-    counts: &[u16],
-    classes: &[u16],
-    kept: &[u8],
-    cache: &[u16],
+    base: &Base,
     ties: &[u16],
     beside: &[u16],
     subtypes: &[u16],
@@ -58,10 +44,10 @@ fn judge(
     trial: &mut [u16],
     supers: &mut [u8],
 ) -> bool
-    ensures tried { NewTried counts.now classes.now kept.now cache.now n counted.old trial.old supers.old counted.new trial.new supers.new }
-    ensures judged { Judged counts.now classes.now kept.now cache.now ties.now beside.now subtypes.now n counted.old trial.old supers.old result }
+    ensures tried { NewTried base.now.counts.now base.now.classes.now base.now.kept.now base.now.cache.now n counted.old trial.old supers.old counted.new trial.new supers.new }
+    ensures judged { Judged base.now.counts.now base.now.classes.now base.now.kept.now base.now.cache.now ties.now beside.now subtypes.now n counted.old trial.old supers.old result }
 {
-    try_newcomer(counts, classes, kept, cache, n, counted, trial, supers);
+    try_newcomer(base, n, counted, trial, supers);
     constraints::agreed(constraints::check(
         supers,
         trial,
@@ -71,7 +57,7 @@ fn judge(
         beside,
         subtypes,
         n.noted,
-        at(counts, COUNT_CACHE),
+        at(base.counts, COUNT_CACHE),
     ))
 }
 
@@ -79,21 +65,12 @@ fn judge(
 fn is_free(n: Newcomer) -> bool
     ensures { result ≡ (eqb n.tied 0 && eqb n.noted 0) }
 {
-    if n.tied == 0 { n.noted == 0 } else { false }
+    n.tied == 0 && n.noted == 0
 }
 
 // Whether the store with the newcomer agrees: without constraints it does, and nothing is copied. Of the counts those before the owners are copied.
-fn is_agreed(
-    counts: &[u16],
-    classes: &[u16],
-    kept: &[u8],
-    cache: &[u16],
-    ties: &[u16],
-    beside: &[u16],
-    subtypes: &[u16],
-    n: Newcomer,
-) -> bool
-    ensures { Agrees counts.now classes.now kept.now cache.now ties.now beside.now subtypes.now n result }
+fn is_agreed(base: &Base, ties: &[u16], beside: &[u16], subtypes: &[u16], n: Newcomer) -> bool
+    ensures { Agrees base.now.counts.now base.now.classes.now base.now.kept.now base.now.cache.now ties.now beside.now subtypes.now n result }
 {
     if is_free(n) {
         return true;
@@ -102,10 +79,7 @@ fn is_agreed(
     let mut trial = [0u16; CACHE_LENGTH];
     let mut supers = [0u8; CLASS_LIMIT as usize];
     judge(
-        counts,
-        classes,
-        kept,
-        cache,
+        base,
         ties,
         beside,
         subtypes,
@@ -118,53 +92,46 @@ fn is_agreed(
 
 // What an admitted load comes to: a newcomer is added if the store with it agrees.
 pub(crate) fn decide(
-    counts: &[u16],
-    classes: &[u16],
-    kept: &[u8],
-    cache: &[u16],
+    base: &Base,
     ties: &[u16],
     beside: &[u16],
     subtypes: &[u16],
     plan: Plan,
 ) -> Plan
-    ensures { Grouping plan ties.now beside.now → (c : Load) → Decides c counts.now classes.now kept.now cache.now ties.now subtypes.now plan result }
+    ensures { Grouping plan ties.now beside.now → (c : Load) → Decides c base.now.counts.now base.now.classes.now base.now.kept.now base.now.cache.now ties.now subtypes.now plan result }
 {
     match plan {
-        Plan::Refuse(_) => plan,
-        Plan::Keep => plan,
-        Plan::Add(n) => {
-            if is_agreed(counts, classes, kept, cache, ties, beside, subtypes, n) {
-                return plan;
+        Err(_) => plan,
+        Ok(planned) => match planned {
+            None => plan,
+            Some(n) => {
+                if is_agreed(base, ties, beside, subtypes, n) {
+                    return plan;
+                }
+                Err(Refusal::Word(WORD_CLASH))
             }
-            Plan::Refuse(Refusal::Word(WORD_CLASH))
-        }
+        },
     }
 }
 
 // What the try of an admitted newcomer answers: what the load would, and on a clash why, by the numbers of a chain's rows, written into the list, and how many.
 // The newcomer's own rows are numbered on behind the stored ones.
 fn explain(
-    counts: &[u16],
-    classes: &[u16],
-    kept: &[u8],
-    cache: &[u16],
+    base: &Base,
     ties: &[u16],
     beside: &[u16],
     subtypes: &[u16],
     n: Newcomer,
     list: &mut [u16],
 ) -> Trial
-    requires { Sized counts.now classes.now kept.now cache.now n }
-    ensures { Beside ties.now beside.now n.tied → (c : Load) → Explains c counts.now classes.now kept.now cache.now ties.now subtypes.now n list.old result.reply result.count list.new }
+    requires { Sized base.now.counts.now base.now.classes.now base.now.kept.now base.now.cache.now n }
+    ensures { Beside ties.now beside.now n.tied → (c : Load) → Explains c base.now.counts.now base.now.classes.now base.now.kept.now base.now.cache.now ties.now subtypes.now n list.old result.reply result.count list.new }
 {
     let mut counted = [0u16; COUNTS_LENGTH];
     let mut trial = [0u16; CACHE_LENGTH];
     let mut supers = [0u8; CLASS_LIMIT as usize];
     if judge(
-        counts,
-        classes,
-        kept,
-        cache,
+        base,
         ties,
         beside,
         subtypes,
@@ -182,30 +149,27 @@ fn explain(
     let count = constraints::reason(&supers, &counted, &trial, ties, subtypes, list);
     Trial {
         reply: Reply::Denied(Refusal::Word(WORD_CLASH)),
-        count: count,
+        count,
     }
 }
 
 // What the try of a load answers that was admitted or refused. A list is written on a clash alone.
 pub(crate) fn offer(
-    counts: &[u16],
-    classes: &[u16],
-    kept: &[u8],
-    cache: &[u16],
+    base: &Base,
     ties: &[u16],
     beside: &[u16],
     subtypes: &[u16],
     plan: Plan,
     list: &mut [u16],
 ) -> Trial
-    requires { Ready counts.now classes.now kept.now cache.now plan }
-    ensures { Grouping plan ties.now beside.now → (c : Load) → Offers c counts.now classes.now kept.now cache.now ties.now subtypes.now plan list.old result.reply result.count list.new }
+    requires { Ready base.now.counts.now base.now.classes.now base.now.kept.now base.now.cache.now plan }
+    ensures { Grouping plan ties.now beside.now → (c : Load) → Offers c base.now.counts.now base.now.classes.now base.now.kept.now base.now.cache.now ties.now subtypes.now plan list.old result.reply result.count list.new }
 {
     match plan {
-        Plan::Refuse(r) => entries::unlisted(Reply::Denied(r)),
-        Plan::Keep => entries::unlisted(Reply::Accepted),
-        Plan::Add(n) => explain(
-            counts, classes, kept, cache, ties, beside, subtypes, n, list,
-        ),
+        Err(r) => entries::unlisted(Reply::Denied(r)),
+        Ok(planned) => match planned {
+            None => entries::unlisted(Reply::Accepted),
+            Some(n) => explain(base, ties, beside, subtypes, n, list),
+        },
     }
 }

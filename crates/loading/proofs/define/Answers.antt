@@ -16,64 +16,64 @@ admit-admitted-requires c = (refl, refl)
 
 pub write_class-requires : goal.write_class-requires
 unfolding load_of held file_of
-write_class-requires c = (planned-new _ c.in-Add.is (c.decide_class-plan.ensures c.args.loader c.args.file.now 512 _ _ _ _ c.admit-admitted.ensures)).newly.file
+write_class-requires c = (planned-new _ (rw c.in-Some.is at c.in-Ok.is) (c.decide_class-plan.ensures c.args.loader c.args.file.now 512 _ _ _ _ c.admit-admitted.ensures)).newly.file
 
 pub overflow_add-number : goal.overflow_add-number
 unfolding load_of held
-overflow_add-number c = omega (arith, c.at-number.ensures, (planned-new _ c.in-Add.is (c.decide_class-plan.ensures c.args.loader c.args.file.now 512 _ _ _ _ c.admit-admitted.ensures)).newly.fits.sized.base.classes_few)
+overflow_add-number c = omega (arith, c.at-number.ensures, (planned-new _ (rw c.in-Some.is at c.in-Ok.is) (c.decide_class-plan.ensures c.args.loader c.args.file.now 512 _ _ _ _ c.admit-admitted.ensures)).newly.fits.sized.base.classes_few)
 
 pub overflow_cast-end : goal.overflow_cast-end
 unfolding load_of held file_of
-overflow_cast-end c = omega (arith, (planned-new _ c.in-Add.is (c.decide_class-plan.ensures c.args.loader c.args.file.now 512 _ _ _ _ c.admit-admitted.ensures)).newly.file)
+overflow_cast-end c = omega (arith, (planned-new _ (rw c.in-Some.is at c.in-Ok.is) (c.decide_class-plan.ensures c.args.loader c.args.file.now 512 _ _ _ _ c.admit-admitted.ensures)).newly.file)
 
 pub overflow_add-end : goal.overflow_add-end
 unfolding load_of held file_of
-overflow_add-end c = let newly = (planned-new _ c.in-Add.is (c.decide_class-plan.ensures c.args.loader c.args.file.now 512 _ _ _ _ c.admit-admitted.ensures)).newly in
+overflow_add-end c = let newly = (planned-new _ (rw c.in-Some.is at c.in-Ok.is) (c.decide_class-plan.ensures c.args.loader c.args.file.now 512 _ _ _ _ c.admit-admitted.ensures)).newly in
     omega (arith, c.at.ensures, newly.file, newly.fits.sized.base.kept_few)
 
 pub enter_class-requires : goal.enter_class-requires
 unfolding load_of held
-enter_class-requires c = let sized = (planned-new _ c.in-Add.is (c.decide_class-plan.ensures c.args.loader c.args.file.now 512 _ _ _ _ c.admit-admitted.ensures)).newly.fits.sized in
+enter_class-requires c = let sized = (planned-new _ (rw c.in-Some.is at c.in-Ok.is) (c.decide_class-plan.ensures c.args.loader c.args.file.now 512 _ _ _ _ c.admit-admitted.ensures)).newly.fits.sized in
     (omega (arith, sized.room), sized.grown)
 
 pub reply_of-requires : goal.reply_of-requires
 unfolding load_of held
-reply_of-requires c = (planned-new _ c.in-Add.is (c.decide_class-plan.ensures c.args.loader c.args.file.now 512 _ _ _ _ c.admit-admitted.ensures)).newly.fits.sized.class
+reply_of-requires c = (planned-new _ (rw c.in-Some.is at c.in-Ok.is) (c.decide_class-plan.ensures c.args.loader c.args.file.now 512 _ _ _ _ c.admit-admitted.ensures)).newly.fits.sized.class
 
-pub returns-in-Refuse : goal.returns-in-Refuse
+pub returns-in-Err : goal.returns-in-Err
 unfolding load_of held Planned
-returns-in-Refuse c = rw c.in-Refuse.is at (c.decide_class-plan.ensures c.args.loader c.args.file.now 512 _ _ _ _ c.admit-admitted.ensures) ∙ offered-whole (load_define c.args.loader c.args.file.now) (tables c.args.counts.now c.args.classes.now c.args.kept.now c.args.cache.now c.args.ties.now c.args.subtypes.now c.args.objects.now c.args.frames.now)
+returns-in-Err c = rw c.in-Err.is at (c.decide_class-plan.ensures c.args.loader c.args.file.now 512 _ _ _ _ c.admit-admitted.ensures) ∙ offered-whole (load_define c.args.loader c.args.file.now) (tables c.args.counts.now c.args.classes.now c.args.kept.now c.args.cache.now c.args.ties.now c.args.subtypes.now c.args.objects.now c.args.frames.now)
 
-pub returns-in-Keep : goal.returns-in-Keep
+pub returns-in-None : goal.returns-in-None
 unfolding load_of held Planned
-returns-in-Keep c = rw c.in-Keep.is at (c.decide_class-plan.ensures c.args.loader c.args.file.now 512 _ _ _ _ c.admit-admitted.ensures) ∙ offered-whole (load_define c.args.loader c.args.file.now) (tables c.args.counts.now c.args.classes.now c.args.kept.now c.args.cache.now c.args.ties.now c.args.subtypes.now c.args.objects.now c.args.frames.now)
+returns-in-None c = rw (rw c.in-None.is at c.in-Ok.is) at (c.decide_class-plan.ensures c.args.loader c.args.file.now 512 _ _ _ _ c.admit-admitted.ensures) ∙ offered-whole (load_define c.args.loader c.args.file.now) (tables c.args.counts.now c.args.classes.now c.args.kept.now c.args.cache.now c.args.ties.now c.args.subtypes.now c.args.objects.now c.args.frames.now)
 
-pub shape_of-counts-in-Add : goal.shape_of-counts-in-Add
-shape_of-counts-in-Add c = c.enter_class.auto.counts
+pub shape_of-counts-in-Some : goal.shape_of-counts-in-Some
+shape_of-counts-in-Some c = c.enter_class.auto.counts
 
-pub shape_of-classes-in-Add : goal.shape_of-classes-in-Add
-shape_of-classes-in-Add c = c.write_class.auto.classes
+pub shape_of-classes-in-Some : goal.shape_of-classes-in-Some
+shape_of-classes-in-Some c = c.write_class.auto.classes
 
-pub shape_of-kept-in-Add : goal.shape_of-kept-in-Add
-shape_of-kept-in-Add c = c.write_class.auto.kept
+pub shape_of-kept-in-Some : goal.shape_of-kept-in-Some
+shape_of-kept-in-Some c = c.write_class.auto.kept
 
-pub shape_of-cache-in-Add : goal.shape_of-cache-in-Add
-shape_of-cache-in-Add c = c.enter_class.auto.cache
+pub shape_of-cache-in-Some : goal.shape_of-cache-in-Some
+shape_of-cache-in-Some c = c.enter_class.auto.cache
 
-pub shape_of-ties-in-Add : goal.shape_of-ties-in-Add
-shape_of-ties-in-Add c = c.write_class.auto.ties
+pub shape_of-ties-in-Some : goal.shape_of-ties-in-Some
+shape_of-ties-in-Some c = c.write_class.auto.ties
 
-pub shape_of-subtypes-in-Add : goal.shape_of-subtypes-in-Add
-shape_of-subtypes-in-Add c = c.write_class.auto.subtypes
+pub shape_of-subtypes-in-Some : goal.shape_of-subtypes-in-Some
+shape_of-subtypes-in-Some c = c.write_class.auto.subtypes
 
-pub returns-in-Add : goal.returns-in-Add
+pub returns-in-Some : goal.returns-in-Some
 unfolding load_of held written
-returns-in-Add c = let counts = c.args.counts.now in
+returns-in-Some c = let counts = c.args.counts.now in
     let file = c.args.file.now in
-    let n = c.in-Add.n in
+    let n = c.in-Some.n in
     let class = c.write_class.ensures in
     (λ i. done (c.reply_of.ensures i) (tables
     ((c.enter_class.ensures.counted ∙ (λ j. grouped_with n counts (class.tied j) (counts_with n (c.at-number.ensures j + 1) (c.at.ensures j + length file) counts))) i)
     (class.row i) (class.bytes i) (c.enter_class.ensures.written i) (class.tied i) (class.noted i)
     c.args.objects.now c.args.frames.now))
-    ∙ ((planned-new _ c.in-Add.is (c.decide_class-plan.ensures c.args.loader c.args.file.now 512 _ _ _ _ c.admit-admitted.ensures)).whole ∙ offered-whole (load_define c.args.loader c.args.file.now) (tables c.args.counts.now c.args.classes.now c.args.kept.now c.args.cache.now c.args.ties.now c.args.subtypes.now c.args.objects.now c.args.frames.now))
+    ∙ ((planned-new _ (rw c.in-Some.is at c.in-Ok.is) (c.decide_class-plan.ensures c.args.loader c.args.file.now 512 _ _ _ _ c.admit-admitted.ensures)).whole ∙ offered-whole (load_define c.args.loader c.args.file.now) (tables c.args.counts.now c.args.classes.now c.args.kept.now c.args.cache.now c.args.ties.now c.args.subtypes.now c.args.objects.now c.args.frames.now))

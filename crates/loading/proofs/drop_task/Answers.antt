@@ -11,4 +11,4 @@ returns-then-task-ge-TASK_LIMIT c = drop-unknown _ _ (sym c.is_broken.ensures �
 
 pub returns : goal.returns
 returns c =
-    rw (c.put-2.ensures, c.put.ensures, c.wide32.ensures.0) (drop-done _ _ (sym c.is_broken.ensures ∙ c.if-is_broken.false) c.if-task-ge-TASK_LIMIT.false)
+    rw (c.put-2.ensures, c.put.ensures) (drop-done _ _ (sym c.is_broken.ensures ∙ c.if-is_broken.false) c.if-task-ge-TASK_LIMIT.false)

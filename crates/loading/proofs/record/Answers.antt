@@ -14,26 +14,26 @@ admit-admitted-requires c = tt
 
 pub enter-requires : goal.enter-requires
 unfolding load_of held
-enter-requires c = let sized = (planned-new _ c.in-Add.is (c.decide_entry-plan.ensures c.args.loader c.args.name c.args.class 512 _ _ _ _ c.admit-admitted.ensures)).newly.fits.sized in
+enter-requires c = let sized = (planned-new _ (rw c.in-Some.is at c.in-Ok.is) (c.decide_entry-plan.ensures c.args.loader c.args.name c.args.class 512 _ _ _ _ c.admit-admitted.ensures)).newly.fits.sized in
     (omega (arith, sized.room), sized.grown)
 
 pub reply_of-requires : goal.reply_of-requires
 unfolding load_of held
-reply_of-requires c = (planned-new _ c.in-Add.is (c.decide_entry-plan.ensures c.args.loader c.args.name c.args.class 512 _ _ _ _ c.admit-admitted.ensures)).newly.fits.sized.class
+reply_of-requires c = (planned-new _ (rw c.in-Some.is at c.in-Ok.is) (c.decide_entry-plan.ensures c.args.loader c.args.name c.args.class 512 _ _ _ _ c.admit-admitted.ensures)).newly.fits.sized.class
 
-pub returns-in-Refuse : goal.returns-in-Refuse
+pub returns-in-Err : goal.returns-in-Err
 unfolding load_of held Planned
-returns-in-Refuse c = rw c.in-Refuse.is at (c.decide_entry-plan.ensures c.args.loader c.args.name c.args.class 512 _ _ _ _ c.admit-admitted.ensures) ∙ offered-whole (load_record c.args.loader c.args.name c.args.class) (tables c.args.counts.now c.args.classes.now c.args.kept.now c.args.cache.now c.args.ties.now c.args.subtypes.now c.args.objects.now c.args.frames.now)
+returns-in-Err c = rw c.in-Err.is at (c.decide_entry-plan.ensures c.args.loader c.args.name c.args.class 512 _ _ _ _ c.admit-admitted.ensures) ∙ offered-whole (load_record c.args.loader c.args.name c.args.class) (tables c.args.counts.now c.args.classes.now c.args.kept.now c.args.cache.now c.args.ties.now c.args.subtypes.now c.args.objects.now c.args.frames.now)
 
-pub returns-in-Keep : goal.returns-in-Keep
+pub returns-in-None : goal.returns-in-None
 unfolding load_of held Planned
-returns-in-Keep c = rw c.in-Keep.is at (c.decide_entry-plan.ensures c.args.loader c.args.name c.args.class 512 _ _ _ _ c.admit-admitted.ensures) ∙ offered-whole (load_record c.args.loader c.args.name c.args.class) (tables c.args.counts.now c.args.classes.now c.args.kept.now c.args.cache.now c.args.ties.now c.args.subtypes.now c.args.objects.now c.args.frames.now)
+returns-in-None c = rw (rw c.in-None.is at c.in-Ok.is) at (c.decide_entry-plan.ensures c.args.loader c.args.name c.args.class 512 _ _ _ _ c.admit-admitted.ensures) ∙ offered-whole (load_record c.args.loader c.args.name c.args.class) (tables c.args.counts.now c.args.classes.now c.args.kept.now c.args.cache.now c.args.ties.now c.args.subtypes.now c.args.objects.now c.args.frames.now)
 
-pub returns-in-Add : goal.returns-in-Add
+pub returns-in-Some : goal.returns-in-Some
 unfolding load_of held written
-returns-in-Add c = let counts = c.args.counts.now in
-    let n = c.in-Add.n in
+returns-in-Some c = let counts = c.args.counts.now in
+    let n = c.in-Some.n in
     (λ i. done (c.reply_of.ensures i) (tables
     ((c.enter.ensures.counted ∙ (λ j. counts_with n (c.at-number.ensures j) (c.at-end.ensures j) counts)) i)
     c.args.classes.now c.args.kept.now (c.enter.ensures.written i) c.args.ties.now c.args.subtypes.now c.args.objects.now c.args.frames.now))
-    ∙ ((planned-new _ c.in-Add.is (c.decide_entry-plan.ensures c.args.loader c.args.name c.args.class 512 _ _ _ _ c.admit-admitted.ensures)).whole ∙ offered-whole (load_record c.args.loader c.args.name c.args.class) (tables c.args.counts.now c.args.classes.now c.args.kept.now c.args.cache.now c.args.ties.now c.args.subtypes.now c.args.objects.now c.args.frames.now))
+    ∙ ((planned-new _ (rw c.in-Some.is at c.in-Ok.is) (c.decide_entry-plan.ensures c.args.loader c.args.name c.args.class 512 _ _ _ _ c.admit-admitted.ensures)).whole ∙ offered-whole (load_record c.args.loader c.args.name c.args.class) (tables c.args.counts.now c.args.classes.now c.args.kept.now c.args.cache.now c.args.ties.now c.args.subtypes.now c.args.objects.now c.args.frames.now))

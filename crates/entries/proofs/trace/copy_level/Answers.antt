@@ -1,5 +1,5 @@
 -- Five cells are read, and written at the row.
-use Rattle.std.proofs.Common.{arith, rules}
+use Rattle.std.proofs.Common.{arith}
 use Rattle.definition.specs.Tables.{put_level}
 use Rattle.entries.specs.Remembering.{level_in}
 use Rattle.entries.proofs.trace.copy_level.Goals as goal

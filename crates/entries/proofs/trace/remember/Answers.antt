@@ -1,5 +1,5 @@
 -- Too many loads, fewer than the most, or the most.
-use Rattle.std.proofs.Common.{sym, rules}
+use Rattle.std.proofs.Common.{sym}
 use Rattle.entries.specs.Remembering.{remembered-few, remembered-full, remembered-many}
 use Rattle.entries.proofs.trace.remember.Goals as goal
 

@@ -2,6 +2,7 @@
 use mathlib.Core.Path.{◌≡◌, sym, ◌∙◌}
 use mathlib.Core.Bool.{true, false}
 use native.Mathlib.Omega.{arith}
+use Rattle.std.proofs.lemmas.Result.{err_from_is_err_and}
 use Rattle.definition.specs.Tables.{Tables, tables}
 use Rattle.definition.specs.Broken.{broken}
 use Rattle.entries.specs.World.{loadable}
@@ -54,10 +55,16 @@ overflow_cast-class c = let e = (goal.at.overflow_cast-class c).Else-not-is_know
 pub admit_entry-requires : goal.admit_entry-requires
 admit_entry-requires c = let e = (goal.at.admit_entry-requires c).Else-not-is_known in (record-entry _ _ _ _ _ c.in-Record.is (numbers e)).class
 
-pub returns-in-Define : goal.returns-in-Define
+pub returns-in_err-n-in-Define : goal.returns-in_err-n-in-Define
 unfolding load_of held
-returns-in-Define c = let e = (goal.at.returns-in-Define c).Else-not-is_known in
-    rw c.in-Define.is (class-admitted (store e) _ _ (sound e) _ c.if-size-lt-LIST_LIMIT.false _ _ (define-loader _ _ _ c.in-Define.is (numbers e)) _ c.admit_file.ensures)
+returns-in_err-n-in-Define c = let e = (goal.at.returns-in_err-n-in-Define c).Else-not-is_known in
+    let p = err_from_is_err_and c.from_residual.result c.from_residual.ensures.1 in
+    rw (c.in-Define.is, p.1, p.2) (class-admitted (store e) _ _ (sound e) _ c.if-size-lt-LIST_LIMIT.false _ _ (define-loader _ _ _ c.in-Define.is (numbers e)) _ (rw c.in_err-n-in-Define.was at c.admit_file.ensures))
+
+pub returns-in_ok-n-in-Define : goal.returns-in_ok-n-in-Define
+unfolding load_of held
+returns-in_ok-n-in-Define c = let e = (goal.at.returns-in_ok-n-in-Define c).Else-not-is_known in
+    rw c.in-Define.is (class-admitted (store e) _ _ (sound e) _ c.if-size-lt-LIST_LIMIT.false _ _ (define-loader _ _ _ c.in-Define.is (numbers e)) _ (rw c.in_ok-n-in-Define.was at c.admit_file.ensures))
 
 pub returns-in-Record : goal.returns-in-Record
 unfolding load_of held

@@ -28,5 +28,5 @@ returns c =
       counted = c.write_counts.ensures
           ∙ ((λ i. numbers_on (c.remember.ensures i) n.tied n.noted (write_rows set (args.classes ∷ args.kept ∷ (row i + 1) ∷ n.tied ∷ n.noted ∷ []) 0 (c.remember.ensures i)))
           ∙ numbers-same counts n.tied n.noted _);
-      written = c.put_three.ensures ∙ (λ i. put_three args.cache.now (row i) (c.from.ensures i) n.name n.class);
+      written = c.put_three.ensures ∙ (λ i. put_three args.cache.now ((c.from.ensures ∙ row) i) (c.from-2.ensures i) n.name n.class);
     }

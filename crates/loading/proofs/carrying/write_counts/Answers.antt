@@ -2,6 +2,7 @@
 use mathlib.Core.Path.{◌∙◌}
 use native.Mathlib.Omega.{arith}
 use Rattle.store.specs.Numbering.{numbered-few}
+use Rattle.entries.specs.Writing.{written-rows}
 use Rattle.loading.specs.Writing.{numbers_on}
 use Rattle.loading.proofs.carrying.write_counts.Goals as goal
 
@@ -15,4 +16,4 @@ returns c =
     let s = c.at-noted.ensures in
     let a = c.number_rows.ensures ∙ numbered-few _ _ _ _ _ (omega (arith, p, q, s, g.ties, g.ties_few, g.subtypes, g.subtypes_few)) in
     let b = c.number_rows-2.ensures ∙ numbered-few _ _ _ _ _ (omega (arith, p, r, s, g.ties, g.ties_few, g.subtypes, g.subtypes_few)) in
-    rw (b, a, c.write_cells.ensures, p, q, r, s)
+    rw (b, a, c.write_cells.ensures ∙ written-rows _ _ _, p, q, r, s)

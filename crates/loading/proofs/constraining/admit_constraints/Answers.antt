@@ -7,6 +7,7 @@ use Rattle.definition.specs.Answers.{number}
 use Rattle.layout.specs.Places.{write_rows-length}
 use Rattle.definition.specs.Requests.{at}
 use Rattle.classfile.specs.Reading.{super_name, quick_file}
+use Rattle.entries.specs.Writing.{written-rows}
 use Rattle.loading.specs.Stages.{Decided}
 use Rattle.loading.proofs.Constrained.{posted-full, TiesMade, ties-made, posted-roomless, posted-new}
 use Rattle.loading.proofs.constraining.admit_constraints.Goals as goal
@@ -14,14 +15,14 @@ use Rattle.loading.proofs.constraining.admit_constraints.Goals.{After-post_metho
 
 -- the ties are posted to a copy of the table
 module _ (c : After-post_methods-tied) where
-  made : TiesMade c.args.counts.now c.args.classes.now c.args.kept.now c.args.cache.now c.args.ties.now c.args.subtypes.now
+  made : TiesMade c.args.base.now.counts.now c.args.base.now.classes.now c.args.base.now.kept.now c.args.base.now.cache.now c.args.ties.now c.args.subtypes.now
       c.requires.0 c.args.loader c.args.p c.args.file.now c.post_methods-tied.new.ties c.post_methods-tied.result
-  made = ties-made _ _ _ _ _ _ c.requires.0 _ _ _ _ _ _ _ _ c.requires.3 c.write_cells.ensures c.at.ensures c.post_methods-tied.ensures
+  made = ties-made _ _ _ _ _ _ c.requires.0 _ _ _ _ _ _ _ _ c.requires.3 (c.write_cells.ensures ∙ written-rows _ _ _) c.at.ensures c.post_methods-tied.ensures
 
 pub post_methods-tied-requires : goal.post_methods-tied-requires
 post_methods-tied-requires c =
     let pre = c.requires in
-    let long : length c.write_cells.new.t ≡ 888 = ap length c.write_cells.ensures ∙ (write_rows-length set length-set _ _ _ ∙ pre.3) in
+    let long : length c.write_cells.new.t ≡ 888 = ap length (c.write_cells.ensures ∙ written-rows _ _ _) ∙ (write_rows-length set length-set _ _ _ ∙ pre.3) in
     (pre.2, omega (arith, c.at.ensures, pre.0.ties_few), long, pre.0.base.loaders)
 
 pub returns-then-noted-gt-SUBTYPE_LIMIT : goal.returns-then-noted-gt-SUBTYPE_LIMIT

@@ -1,14 +1,10 @@
 -- Each limit is tested in turn.
 use mathlib.Core.Path.{sym}
-use native.Mathlib.Omega.{arith}
 use borrow.Author.Tests.{le-leb, lt-leb, lt-ltb, le-ltb}
 use Rattle.definition.specs.Lists.{every}
 use Rattle.loading.specs.Stages.{room_for}
 use Rattle.classfile.specs.Lists.{every-last}
 use Rattle.loading.proofs.constraining.has_room.Goals as goal
-
-pub overflow_add-from : goal.overflow_add-from
-overflow_add-from c = omega (arith, c.requires, c.from.ensures.1)
 
 pub returns-then-from-file-gt-KEPT_LENGTH : goal.returns-then-from-file-gt-KEPT_LENGTH
 unfolding room_for every
@@ -26,10 +22,7 @@ pub returns-then-tied-gt-TIE_LIMIT : goal.returns-then-tied-gt-TIE_LIMIT
 unfolding room_for every
 returns-then-tied-gt-TIE_LIMIT c = rw (← c.at.ensures, ← c.from.ensures, le-leb _ _ c.if-from-file-gt-KEPT_LENGTH.false, ← c.at-2.ensures, lt-ltb _ _ c.if-at-ge-CLASS_LIMIT.false, ← c.at-3.ensures, lt-ltb _ _ c.if-at-ge-CACHE_LIMIT.false, lt-leb _ _ c.if-tied-gt-TIE_LIMIT.true, every)
 
-pub overflow_add-result : goal.overflow_add-result
-overflow_add-result c = omega (arith, c.size_of.ensures.1, c.from-own.ensures.1)
-
 pub returns : goal.returns
 unfolding room_for every
 returns c =
-    rw (← c.at.ensures, ← c.from.ensures, le-leb _ _ c.if-from-file-gt-KEPT_LENGTH.false, ← c.at-2.ensures, lt-ltb _ _ c.if-at-ge-CLASS_LIMIT.false, ← c.at-3.ensures, lt-ltb _ _ c.if-at-ge-CACHE_LIMIT.false, le-leb _ _ c.if-tied-gt-TIE_LIMIT.false, every, ← c.size_of.ensures.0, ← c.field_count.ensures, ← c.from.ensures, ← c.from-own.ensures) (sym (every-last _))
+    rw (← c.at.ensures, ← c.from.ensures, le-leb _ _ c.if-from-file-gt-KEPT_LENGTH.false, ← c.at-2.ensures, lt-ltb _ _ c.if-at-ge-CLASS_LIMIT.false, ← c.at-3.ensures, lt-ltb _ _ c.if-at-ge-CACHE_LIMIT.false, le-leb _ _ c.if-tied-gt-TIE_LIMIT.false, every, ← c.size_of.ensures.0, ← c.field_count.ensures, ← c.from-own.ensures) (sym (every-last _))

@@ -4,14 +4,14 @@ use borrow.Author.Tests.{eqb-true}
 use Rattle.loading.specs.Plans.{PostsNone}
 use Rattle.loading.proofs.lending.posts_none.Goals as goal
 
-pub returns-in-Refuse : goal.returns-in-Refuse
+pub returns-in-Err : goal.returns-in-Err
 unfolding PostsNone
-returns-in-Refuse c = λ h. rw c.in-Refuse.is tt
+returns-in-Err c = λ h. rw c.in-Err.is tt
 
-pub returns-in-Keep : goal.returns-in-Keep
+pub returns-in-None : goal.returns-in-None
 unfolding PostsNone
-returns-in-Keep c = λ h. rw c.in-Keep.is tt
+returns-in-None c = λ h. rw (rw c.in-None.is at c.in-Ok.is) tt
 
-pub returns-in-Add : goal.returns-in-Add
+pub returns-in-Some : goal.returns-in-Some
 unfolding PostsNone
-returns-in-Add c = λ h. rw c.in-Add.is (eqb-true _ _ h ∙ c.at.ensures)
+returns-in-Some c = λ h. rw (rw c.in-Some.is at c.in-Ok.is) (eqb-true _ _ h ∙ c.at.ensures)

@@ -11,4 +11,4 @@ post_override-requires c =
 
 pub returns : goal.returns
 returns c =
-    rw (← method-signed c.args.file.now c.args.j c.requires.0 _ c.method_place.ensures _ _ _ c.in-At.is c.method_signature-s.ensures) c.post_override.ensures
+    rw (← method-signed c.args.file.now c.args.j c.requires.0 _ c.method_place.ensures _ _ c.in-Some.is c.method_signature-s.ensures) c.post_override.ensures

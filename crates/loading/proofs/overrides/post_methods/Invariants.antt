@@ -11,7 +11,4 @@ use Rattle.loading.specs.Posting.{TiesPosted}
 use Rattle.loading.proofs.overrides.post_methods.Given as goal
 
 abbrev pub invariant-loop-j : goal.invariant-loop-j
-invariant-loop-j l = (l.j ≤ l.n) × (l.total + 5 * (l.n - l.j) ≤ 296) × (length l.ties ≡ 888) × TiesPosted (override_ties (quick_base l.counts l.classes l.kept l.cache) l.loader l.p (rows (tie_at l.ties) l.total 0) (rows (method_in l.file) (l.n - l.j) l.j)) l.ties l.total (write_rows put_tie (override_ties (quick_base l.counts l.classes l.kept l.cache) l.loader l.p (rows (tie_at l.initial.ties) l.count 0) (rows (method_in l.file) l.n 0)) l.count l.initial.ties) (l.count + length (override_ties (quick_base l.counts l.classes l.kept l.cache) l.loader l.p (rows (tie_at l.initial.ties) l.count 0) (rows (method_in l.file) l.n 0)))
-
-abbrev pub decreases-loop-j : goal.decreases-loop-j
-decreases-loop-j l = l.n - l.j
+invariant-loop-j l = (l.total + 5 * (l.n - l.j) ≤ 296) × (length l.ties ≡ 888) × TiesPosted (override_ties (quick_base l.base.counts.now l.base.classes.now l.base.kept.now l.base.cache.now) l.loader l.p (rows (tie_at l.ties) l.total 0) (rows (method_in l.file) (l.n - l.j) l.j)) l.ties l.total (write_rows put_tie (override_ties (quick_base l.base.counts.now l.base.classes.now l.base.kept.now l.base.cache.now) l.loader l.p (rows (tie_at l.initial.ties) l.count 0) (rows (method_in l.file) l.n 0)) l.count l.initial.ties) (l.count + length (override_ties (quick_base l.base.counts.now l.base.classes.now l.base.kept.now l.base.cache.now) l.loader l.p (rows (tie_at l.initial.ties) l.count 0) (rows (method_in l.file) l.n 0)))

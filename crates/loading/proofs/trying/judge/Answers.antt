@@ -11,6 +11,6 @@ returns c =
     let tried = c.try_newcomer.ensures in
     record {
       tried = tried;
-      judged = λ nl bl sl g bs f. c.agreed.ensures ∙ (new-names args.counts.now args.classes.now args.kept.now args.cache.now bs args.n f _ _ _ _ _ _ nl bl sl tried
+      judged = λ nl bl sl g bs f. c.agreed.ensures ∙ (new-names args.base.now.counts.now args.base.now.classes.now args.base.now.kept.now args.base.now.cache.now bs args.n f _ _ _ _ _ _ nl bl sl tried
           args.ties.now args.beside.now args.subtypes.now _ _ _ c.at.ensures c.at-2.ensures g c.check.ensures).exactly;
     }
