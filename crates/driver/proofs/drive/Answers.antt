@@ -15,4 +15,4 @@ returns-then-not-is_accepted c =
 pub returns : goal.returns
 unfolding perform
 returns c =
-    let all = drive-safe _ _ _ _ _ _ (drive-accepted _ _ _ _ _ c.boot-reply.ensures (sym c.is_accepted.ensures ∙ c.if-not-is_accepted.false) _ c.perform_rows.ensures) in record { left = all.0; safe = all.1 }
+    let all = drive-safe _ _ _ _ _ _ (drive-accepted _ _ _ _ _ c.boot-reply.ensures (sym c.is_accepted.ensures ∙ c.if-not-is_accepted.false) _ c.perform_rows-performed.ensures) in record { left = all.0; safe = all.1 }

@@ -13,9 +13,9 @@ size a b = omega arith
 pub returns-then-end-files : goal.returns-then-end-files
 unfolding cell_in file_in
 returns-then-end-files c =
-    rw (c.wide32-start.ensures.0, c.wide32.ensures.0, size _ _) (sym (part-there _ _ _ (rw (c.wide32-start.ensures.0, c.wide32.ensures.0) at c.if-end-files.true)))
+    rw (size _ _) (sym (part-there _ _ _ c.if-end-files.true))
 
 pub returns-else-end-files : goal.returns-else-end-files
 unfolding cell_in file_in
 returns-else-end-files c =
-    sym (part-past _ _ _ (rw (c.wide32-start.ensures.0, c.wide32.ensures.0) at c.if-end-files.false))
+    sym (part-past _ _ _ c.if-end-files.false)

@@ -5,4 +5,4 @@ use Rattle.lines.proofs.answer.Goals as goal
 
 pub returns : goal.returns
 returns c =
-    answered _ _ _ _ _ _ _ _ _ _ c.perform-reply.ensures c.turn-turn.ensures c.details_of-d.ensures c.print_line-n.ensures
+    answered _ _ _ _ _ _ _ _ _ _ c.perform-reply.ensures c.turn-turn.ensures c.details_of-d.ensures c.print_line.ensures
