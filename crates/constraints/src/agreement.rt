@@ -30,7 +30,7 @@ fn pair_in(
     a: usize,
     span: Span,
 ) -> Option<Pair>
-    requires { (turn ≤ cache_limit + 1) × (span.from ≤ place_limit) × (span.end ≤ place_limit) × (span.who ≡ Followed → span.end ≤ length outs.now) }
+    requires { (turn ≤ cache_limit + 1) × (span.end ≤ place_limit) × (span.who ≡ Followed → span.end ≤ length outs.now) }
     ensures { PairIn (super_in supers.now) groups.now classes.now outs.now ins.now aboves.now turn a span result }
 {
     let stamp = (turn + 1) as u16;
