@@ -30,7 +30,7 @@ pub record Known (T A N O : List ℕ) (key p kind bits j : ℕ) : Type 0 where
   pub made : is_used N bits ≡ true
   pub place : p < 512
   pub class : get_or O (bits * 33) 0 < 64
-  pub fact : j ≡ recalled T A key p (get_or O (bits * 33) 0) 16
+  pub fact : Rust.Some j ≡ recalled T A key p (get_or O (bits * 33) 0)
   pub low : j < 16
 
 -- getfield: the row G with point q and e operands

@@ -12,7 +12,7 @@ use definition::numbers::{FIELD_LIMIT, KIND_OBJECT};
 use frames::Cell;
 use instructions::Plan;
 
-// The slot that is remembered of a place for the receiver x, 16 if none is.
+// The slot that is remembered of a place for the receiver x, if one is.
 fn slot_of(
     tags: &[u32],
     facts: &[u32],
@@ -21,24 +21,19 @@ fn slot_of(
     x: Cell,
     key: u16,
     p: u32,
-) -> u32
+) -> Option<u32>
     requires { key < 512 }
-    ensures { result < 16 → Known tags.now facts.now counts.now objects.now key p x.kind x.bits result }
+    ensures { (j : ℕ) → result ≡ Some j → Known tags.now facts.now counts.now objects.now key p x.kind x.bits j }
 {
-    if x.kind != KIND_OBJECT {
-        return FIELD_LIMIT;
-    }
-    if 512 <= p {
-        return FIELD_LIMIT;
-    }
-    if !frames::is_used(counts, x.bits) {
-        return FIELD_LIMIT;
+    if x.kind != KIND_OBJECT || 512 <= p || !frames::is_used(counts, x.bits) {
+        return None;
     }
     let r = frames::object_class(objects, x.bits);
     if 64 <= r {
-        return FIELD_LIMIT;
+        return None;
     }
-    recall(tags, facts, key, p as u16, r as u16, FIELD_LIMIT)
+    let j = recall(tags, facts, key, p as u16, r as u16)?;
+    if j < FIELD_LIMIT { Some(j) } else { None }
 }
 
 fn getfield(
@@ -62,10 +57,7 @@ fn getfield(
         return None;
     }
     let x = frames::operand(row, 0, d - 1);
-    let j = slot_of(tags, facts, counts, objects, x, key, p);
-    if FIELD_LIMIT <= j {
-        return None;
-    }
+    let j = slot_of(tags, facts, counts, objects, x, key, p)?;
     let v = frames::field(objects, x.bits, j as u8);
     put_above(row, p + 7, Plan::Above(d - 1, v))
 }
@@ -97,10 +89,7 @@ fn putfield(
         return None;
     }
     let x = frames::operand(row, 0, last - 1);
-    let j = slot_of(tags, facts, counts, objects, x, key, p);
-    if FIELD_LIMIT <= j {
-        return None;
-    }
+    let j = slot_of(tags, facts, counts, objects, x, key, p)?;
     let m = keep(row, p + 7, last - 1)?;
     frames::write_field(objects, x.bits, j as u8, v);
     Some(m)

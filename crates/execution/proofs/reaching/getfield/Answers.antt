@@ -4,4 +4,4 @@ use native.Mathlib.Omega.{arith}
 use Rattle.execution.proofs.reaching.getfield.Goals as goal
 
 pub returns : goal.returns
-returns c = did-get _ _ _ _ _ _ _ _ _ _ c.requires.2 (omega (arith, c.if-code-p-le6.false)) _ _ _ _ _ _ c.if-d-eq0.false c.operand-x.ensures (c.slot_of-j.ensures c.if-j-ge-FIELD_LIMIT.false) c.field-v.ensures c.put_above.ensures
+returns c = did-get _ _ _ _ _ _ _ _ _ _ c.requires.2 (omega (arith, c.if-code-p-le6.false)) _ _ _ _ _ _ c.if-d-eq0.false c.operand-x.ensures (c.slot_of.ensures _ c.in_ok-j.was) c.field-v.ensures c.put_above.ensures
