@@ -34,6 +34,12 @@ serves-min n = (omega arith, step (ltb n list_limit) refl)
         let e : min n list_limit ≡ list_limit = omega (arith, ltb-false n list_limit q) in
         ap (λ (x : ℕ). ltb x list_limit) e ∙ sym (le-ltb n list_limit (ltb-false n list_limit q))
 
+pub serves-low : (m n : ℕ) → m ≡ n → m < list_limit → (m ≤ list_limit) × Serves m n
+serves-low m n e h = (omega arith, ap (λ (x : ℕ). ltb x list_limit) e)
+
+pub serves-high : (m n : ℕ) → m ≡ n → list_limit ≤ m → (list_limit ≤ list_limit) × Serves list_limit n
+serves-high m n e h = (omega arith, sym (le-ltb n list_limit (omega arith)))
+
 -- the first m cells of a list of zeros
 pub served : (m n : ℕ) → (m ≤ list_limit) × Serves m n → Serves (length (take (m - 0) (replicate {A = ℕ} list_limit 0))) n
 served m n h = ap (λ (x : ℕ). ltb x list_limit) (length-take-le (m - 0) (replicate {A = ℕ} list_limit 0) (omega (arith, length-replicate {A = ℕ} list_limit 0, h.0)) ∙ first) ∙ h.1

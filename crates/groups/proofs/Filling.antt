@@ -38,6 +38,17 @@ fill_more f P l i v h apart all new p k = go (eq-or-lt_of_le below)
     go (inl e) = rw (e, get_or-set_same l (f i) v 0 h) new
     go (inr m) = rw (get_or-set_other l (f i) (f p) v 0 (apart p m)) (all p m)
 
+-- one more place without the value of place p
+pub none_yet : (value : ℕ → ℕ) (p q : ℕ) → ((i : ℕ) → i < q → value i ≡ value p → ⊥) → (value q ≡ value p → ⊥) → (i : ℕ) → i < q + 1 → value i ≡ value p → ⊥
+none_yet value p q none here i h e = go (eq-or-lt_of_le below)
+  where
+    below : i ≤ q
+    below = omega arith
+
+    go : (i ≡ q) ⊎ (i < q) → ⊥
+    go (inl m) = here (rw m at e)
+    go (inr m) = none i m e
+
 -- The first place of a key
 
 -- the first place that has key x, of those up to p

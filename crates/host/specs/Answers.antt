@@ -91,6 +91,10 @@ reply-number k (Denied r) = refusal-number 0 r
 reply-number k (Swept n) = refl
 
 -- cells written one by one
+pub cells-written : (a b c d e f : ℕ) (t : List ℕ)
+    → set (set (set (set (set (set t 0 a) 1 b) 2 c) 3 d) 4 e) 5 f ≡ write_rows set (a ∷ b ∷ c ∷ d ∷ e ∷ f ∷ []) 0 t
+cells-written a b c d e f t = sym (cells-sets (a ∷ b ∷ c ∷ d ∷ e ∷ f ∷ []) 0 t)
+
 pub cell-written : (row t : List ℕ) (i : ℕ) → i < length row → set (write_rows set (take i row) 0 t) i (get_or row i 0) ≡ write_rows set (take (i + 1) row) 0 t
 cell-written row t i h =
     let e : 0 + i ≡ i = omega arith in

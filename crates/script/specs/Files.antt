@@ -14,9 +14,9 @@ use Rattle.definition.specs.Script.{hex_digit, hex_pairs, file}
 use Rattle.layout.specs.Cells.{cell-rows, rows-copy}
 use Rattle.script.specs.Numbers.{bind-none}
 
--- a digit's value; 0 if it is no digit
+-- a digit's value; 16 if it is no digit
 unfoldable pub value_in : Option ℕ → ℕ
-value_in none = 0
+value_in none = 16
 value_in (some d) = d
 
 unfoldable pub hex_value : ℕ → ℕ
@@ -26,7 +26,7 @@ abbrev pub is_hex : ℕ → Bool
 is_hex b = is_some (hex_digit b)
 
 unfoldable pub pair_of : ℕ → ℕ → ℕ
-pair_of a b = hex_value a * 16 + hex_value b
+pair_of a b = (hex_value a * 16 + hex_value b) % 256
 
 unfoldable pub pair_value : List ℕ → ℕ → ℕ
 pair_value s i = pair_of (get_or s i 0) (get_or s (i + 1) 0)
@@ -39,7 +39,7 @@ quick_pairs (a ∷ b ∷ bs) = pair_of a b ∷ quick_pairs bs
 
 -- Laws of a digit
 
-pub value_or : (o : Option ℕ) → unwrap_or (optional o) 0 ≡ value_in o
+pub value_or : (o : Option ℕ) → unwrap_or (optional o) 16 ≡ value_in o
 unfolding value_in
 value_or none = refl
 value_or (some d) = refl
@@ -77,16 +77,17 @@ digit_low b d e = first (leb 48 b && leb b 57) refl e
     first true q e = lower 48 57 48 q e (omega arith)
     first false q e = second (leb 65 b && leb b 70) refl e
 
-pub value-low : (b : ℕ) → hex_value b < 16
-unfolding hex_value value_in
-value-low b = step (hex_digit b) refl
+-- a digit's value is below 16
+value-low : (b : ℕ) → is_hex b ≡ true → hex_value b < 16
+unfolding is_some hex_value value_in
+value-low b e = step (hex_digit b) refl e
   where
-    step : (o : Option ℕ) → hex_digit b ≡ o → value_in o < 16
-    step none q = omega arith
-    step (some d) q = digit_low b d q
+    step : (o : Option ℕ) → hex_digit b ≡ o → is_some o ≡ true → value_in o < 16
+    step none q e = absurd (false≢true e)
+    step (some d) q e = digit_low b d q
 
--- a byte's value, or 0
-pub value-taken : (r : Std.Option ℕ) (b n : ℕ) → r ≡ optional (hex_digit b) → n ≡ unwrap_or r 0 → n ≡ hex_value b
+-- a byte's value, or 16
+pub value-taken : (r : Std.Option ℕ) (b n : ℕ) → r ≡ optional (hex_digit b) → n ≡ unwrap_or r 16 → n ≡ hex_value b
 unfolding hex_value
 value-taken r b n e q = q ∙ rw e (value_or (hex_digit b))
 
@@ -196,8 +197,12 @@ pairs-more : (a b : ℕ) (bs : List ℕ) → hex_pairs (a ∷ b ∷ bs) ≡ pair
 unfolding hex_pairs paired
 pairs-more a b bs = refl
 
+pair-whole : (a b : ℕ) → is_hex a ≡ true → is_hex b ≡ true → hex_value a * 16 + hex_value b ≡ pair_of a b
+unfolding pair_of
+pair-whole a b p q = omega (arith, value-low a p, value-low b q)
+
 pub pairs-all : (s : List ℕ) → all is_hex s ≡ true → length s % 2 ≡ 0 → hex_pairs s ≡ some (quick_pairs s)
-unfolding all hex_pairs quick_pairs pair_of
+unfolding all hex_pairs quick_pairs
 pairs-all [] h l = refl
 pairs-all (a ∷ []) h l = absurd (omega arith)
 pairs-all (a ∷ b ∷ bs) h l = step (is_hex a) (is_hex b) refl refl h (λ k. pairs-all bs k (omega arith))
@@ -206,7 +211,7 @@ pairs-all (a ∷ b ∷ bs) h l = step (is_hex a) (is_hex b) refl refl h (λ k. p
         → elim x as (λ _. Bool) [ true ↦ elim y as (λ _. Bool) [ true ↦ all is_hex bs | false ↦ false ] | false ↦ false ] ≡ true
         → (all is_hex bs ≡ true → hex_pairs bs ≡ some (quick_pairs bs)) → hex_pairs (a ∷ b ∷ bs) ≡ some (pair_of a b ∷ quick_pairs bs)
     step true true p q h r =
-        pairs-more a b bs ∙ rw (digit-is a p, digit-is b q, r h) (paired-some (hex_value a) (hex_value b) (quick_pairs bs))
+        pairs-more a b bs ∙ rw (digit-is a p, digit-is b q, r h, ← pair-whole a b p q) (paired-some (hex_value a) (hex_value b) (quick_pairs bs))
     step true false p q h r = absurd (false≢true h)
     step false y p q h r = absurd (false≢true h)
 

@@ -5,6 +5,11 @@ ghost use Rattle.definition.specs.Script.{hex_digit, file};
 ghost use Rattle.cells.specs.Optional.{optional};
 ghost use Rattle.script.specs.Files.{is_hex, pair_value, quick_pairs};
 
+use definition::numbers::BYTE_RANGE;
+
+// How many values a byte has, as a place is counted.
+const BYTES: usize = BYTE_RANGE as usize;
+
 // A digit's value.
 fn hex_value(b: u8) -> Option<u8>
     ensures { result ≡ optional (hex_digit b) }
@@ -45,9 +50,9 @@ fn byte_at(s: &[u8], i: usize) -> u8
     requires { i + 1 < length s.now }
     ensures { result ≡ pair_value s.now i }
 {
-    let high = hex_value(s[i]).unwrap_or(0);
-    let low = hex_value(s[i + 1]).unwrap_or(0);
-    high * 16 + low
+    let high = usize::from(hex_value(s[i]).unwrap_or(16));
+    let low = usize::from(hex_value(s[i + 1]).unwrap_or(16));
+    ((high * 16 + low) % BYTES) as u8
 }
 
 // The bytes that pairs of digits stand for, written from the table's front.
