@@ -2,7 +2,7 @@
 // it. Input is read into a window, which keeps the bytes of a line that is not whole yet.
 #![tactic(auto)]
 
-ghost use Rattle.std.specs.Prelude.{◌≤◌, length};
+ghost use Rattle.std.specs.Prelude.{◌≤◌, IfSome, length};
 
 use definition::numbers::{
     CACHE_LENGTH, CLASSES_LENGTH, COUNTS_LENGTH, FRAMES_LENGTH, KEPT_LENGTH, OBJECTS_LENGTH,
@@ -10,19 +10,24 @@ use definition::numbers::{
 };
 use std::io::{Read, Write};
 
-// How many bytes were carried out, and whether the script is over.
-#[derive(Clone, Copy)]
-struct Carried {
-    read: usize,
-    over: bool,
+// The eight tables of a store, lent together.
+#[derive(Drop)]
+struct Tables<'a> {
+    counts: &'a mut [u16],
+    classes: &'a mut [u16],
+    kept: &'a mut [u8],
+    cache: &'a mut [u16],
+    ties: &'a mut [u16],
+    subtypes: &'a mut [u16],
+    objects: &'a mut [u32],
+    frames: &'a mut [u32],
 }
 
-// How many bytes the window holds, whether the input has ended, and whether the script is over.
+// How many bytes the window holds, and whether the input has ended.
 #[derive(Clone, Copy)]
 struct State {
     held: usize,
     last: bool,
-    over: bool,
 }
 
 // Reads on behind the bytes that the window holds; answers how many it holds then. A read that fails reads nothing, as at the end.
@@ -36,119 +41,84 @@ fn read_on(reader: &mut impl Read, window: &mut [u8], held: usize) -> usize
     }
 }
 
-// Carries out the lines that are ready, as many as the output has room for, and writes their answers. Where that fails, the script is over.
+// Carries out the lines that are ready, as many as the output has room for, and writes their answers: how many bytes were read. None where
+// the script is over, by a line that can't be read or an answer that can't be written.
 fn carry(
     writer: &mut impl Write,
-    counts: &mut [u16],
-    classes: &mut [u16],
-    kept: &mut [u8],
-    cache: &mut [u16],
-    ties: &mut [u16],
-    subtypes: &mut [u16],
-    objects: &mut [u32],
-    frames: &mut [u32],
+    tables: &mut Tables,
     input: &[u8],
     last: bool,
     out: &mut [u8],
-) -> Carried
-    ensures { result.read ≤ length input.now }
+) -> Option<usize>
+    ensures { IfSome result (λ n. n ≤ length input.now) }
 {
-    let p = lines::carry_lines(
-        counts, classes, kept, cache, ties, subtypes, objects, frames, input, last, out,
-    );
-    let written = p.written;
-    let is_written = writer.write_all(&out[..written]).is_ok();
-    Carried {
-        read: p.read,
-        over: !is_written || p.ended,
-    }
-}
-
-// One turn: lines are carried out if some are ready, else more is read.
-fn turn(
-    reader: &mut impl Read,
-    writer: &mut impl Write,
-    counts: &mut [u16],
-    classes: &mut [u16],
-    kept: &mut [u8],
-    cache: &mut [u16],
-    ties: &mut [u16],
-    subtypes: &mut [u16],
-    objects: &mut [u32],
-    frames: &mut [u32],
-    window: &mut [u8],
-    held: usize,
-    last: bool,
-    out: &mut [u8],
-) -> State
-    requires { held ≤ length window.old }
-    ensures { result.held ≤ length window.new }
-{
-    let c = carry(
-        writer,
-        counts,
-        classes,
-        kept,
-        cache,
-        ties,
-        subtypes,
-        objects,
-        frames,
-        &window[..held],
+    let progress = lines::carry_lines(
+        tables.counts,
+        tables.classes,
+        tables.kept,
+        tables.cache,
+        tables.ties,
+        tables.subtypes,
+        tables.objects,
+        tables.frames,
+        input,
         last,
         out,
     );
-    let read = c.read;
+    let written = progress.written;
+    writer.write_all(&out[..written]).ok()?;
+    (!progress.ended).then_some(progress.read)
+}
+
+// One turn: lines are carried out if some are ready, else more is read. None where the script is over.
+fn turn(
+    reader: &mut impl Read,
+    writer: &mut impl Write,
+    tables: &mut Tables,
+    window: &mut [u8],
+    state: State,
+    out: &mut [u8],
+) -> Option<State>
+    requires { state.held ≤ length window.old }
+    ensures { IfSome result (λ s. s.held ≤ length window.new) }
+{
+    let held = state.held;
+    let last = state.last;
+    let read = carry(writer, tables, &window[..held], last, out)?;
     if 0 < read {
         lines::keep_rest(window, read, held);
-        return State {
+        return Some(State {
             held: held - read,
             last,
-            over: c.over,
-        };
+        });
     }
-    if c.over || last {
-        return State {
-            held,
-            last,
-            over: true,
-        };
+    if last {
+        return None;
     }
     let n = read_on(reader, window, held);
-    State {
+    Some(State {
         held: n,
         last: n == held,
-        over: false,
-    }
+    })
 }
 
 // Turn after turn. A proved loop has to end, and nothing says that the input does: no run uses up so many turns.
 fn talk(
     reader: &mut impl Read,
     writer: &mut impl Write,
-    counts: &mut [u16],
-    classes: &mut [u16],
-    kept: &mut [u8],
-    cache: &mut [u16],
-    ties: &mut [u16],
-    subtypes: &mut [u16],
-    objects: &mut [u32],
-    frames: &mut [u32],
+    tables: &mut Tables,
     window: &mut [u8],
     out: &mut [u8],
 ) {
-    let mut held = 0;
-    let mut last = false;
+    let mut state = State {
+        held: 0,
+        last: false,
+    };
     for _ in 0..u64::MAX {
-        let s = turn(
-            reader, writer, counts, classes, kept, cache, ties, subtypes, objects, frames, window,
-            held, last, out,
-        );
-        if s.over {
+        let Some(next) = turn(reader, writer, tables, window, state, out) else {
             break;
-        }
-        held = s.held;
-        last = s.last;
+        };
+        state = next;
     }
 }
 
@@ -171,22 +141,19 @@ fn main(rt: HostRuntime) {
         &objects,
         &frames,
     );
+    let mut tables = Tables {
+        counts: &mut counts,
+        classes: &mut classes,
+        kept: &mut kept,
+        cache: &mut cache,
+        ties: &mut ties,
+        subtypes: &mut subtypes,
+        objects: &mut objects,
+        frames: &mut frames,
+    };
     let mut window = [0u8; 131072];
     let mut out = [0u8; 65536];
     let mut reader = rt.stdin();
     let mut writer = rt.stdout();
-    talk(
-        &mut reader,
-        &mut writer,
-        &mut counts,
-        &mut classes,
-        &mut kept,
-        &mut cache,
-        &mut ties,
-        &mut subtypes,
-        &mut objects,
-        &mut frames,
-        &mut window,
-        &mut out,
-    );
+    talk(&mut reader, &mut writer, &mut tables, &mut window, &mut out);
 }

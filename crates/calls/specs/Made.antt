@@ -1,6 +1,6 @@
 -- A call as code makes it is one of the definition's ten; a define's file, tried or not, is the bytes lent beside it.
-use Rattle.std.specs.Prelude.{◌≡◌, List, ℕ, ◌-◌, ◌<◌, ◌≤◌, length, take, replicate, ltb}
-use Rattle.std.proofs.Common.{sym, ap, ◌∙◌, arith, length-take-le, le-ltb}
+use Rattle.std.specs.Prelude.{◌≡◌, refl, Bool, true, false, List, ℕ, min, ◌-◌, ◌≤◌, length, take, replicate, ltb}
+use Rattle.std.proofs.Common.{sym, ap, ◌∙◌, arith, length-take-le, le-ltb, ltb-true, ltb-false}
 use Rattle.std.proofs.lemmas.List.{length-replicate}
 use Rattle.definition.specs.Numbers.{list_limit}
 use Rattle.definition.specs.Calls as calls
@@ -25,11 +25,14 @@ call_of TakeBack bs = call_take_back
 abbrev pub Serves : ℕ → ℕ → Type 0
 Serves m n = ltb m list_limit ≡ ltb n list_limit
 
-pub serves-low : (m n : ℕ) → m ≡ n → m < list_limit → (m ≤ list_limit) × Serves m n
-serves-low m n e h = (omega arith, ap (λ (x : ℕ). ltb x list_limit) e)
-
-pub serves-high : (m n : ℕ) → m ≡ n → list_limit ≤ m → (list_limit ≤ list_limit) × Serves list_limit n
-serves-high m n e h = (omega arith, sym (le-ltb n list_limit (omega arith)))
+pub serves-min : (n : ℕ) → (min n list_limit ≤ list_limit) × Serves (min n list_limit) n
+serves-min n = (omega arith, step (ltb n list_limit) refl)
+  where
+    step : (t : Bool) → ltb n list_limit ≡ t → Serves (min n list_limit) n
+    step true q = let e : min n list_limit ≡ n = omega (arith, ltb-true n list_limit q) in ap (λ (x : ℕ). ltb x list_limit) e
+    step false q =
+        let e : min n list_limit ≡ list_limit = omega (arith, ltb-false n list_limit q) in
+        ap (λ (x : ℕ). ltb x list_limit) e ∙ sym (le-ltb n list_limit (ltb-false n list_limit q))
 
 -- the first m cells of a list of zeros
 pub served : (m n : ℕ) → (m ≤ list_limit) × Serves m n → Serves (length (take (m - 0) (replicate {A = ℕ} list_limit 0))) n

@@ -30,8 +30,7 @@ pub enum Call {
 fn lent(n: u32) -> usize
     ensures { (result ≤ list_limit) × Serves result n }
 {
-    let wide = n as usize;
-    if wide < LIST_LIMIT { wide } else { LIST_LIMIT }
+    (n as usize).min(LIST_LIMIT)
 }
 
 // A define is tried, and what it lists let go.
@@ -105,6 +104,7 @@ fn try_record(
 }
 
 // The call is made. Only a define, tried or not, reads the file.
+#[tactic(auto, unfolding(crate::specs::Made::call_of, definition::specs::Calls::perform))]
 pub fn perform(
     counts: &mut [u16],
     classes: &mut [u16],

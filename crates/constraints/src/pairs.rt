@@ -99,8 +99,8 @@ fn next_member(groups: &[u16], from: usize, end: usize) -> Option<usize>
     None
 }
 
-// The next request from a place on, before the end, that is marked, looked for one by one.
-fn next_single(marks: &[u16], stamp: u16, from: usize, end: usize) -> Option<usize>
+// The next request from a place on, before the end, that is marked.
+fn next_followed(marks: &[u16], stamp: u16, from: usize, end: usize) -> Option<usize>
     requires { (end ≤ place_limit) × (end ≤ length marks.now) }
     ensures { NextMet [] marks.now stamp Followed from end result }
 {
@@ -112,30 +112,6 @@ fn next_single(marks: &[u16], stamp: u16, from: usize, end: usize) -> Option<usi
     None
 }
 
-// The next request from a place on, before the end, that is marked. Four are looked at in a round, since long chains spend most of their time here.
-fn next_followed(marks: &[u16], stamp: u16, from: usize, end: usize) -> Option<usize>
-    requires { (from ≤ place_limit) × (end ≤ place_limit) × (end ≤ length marks.now) }
-    ensures { NextMet [] marks.now stamp Followed from end result }
-{
-    let mut b = from;
-    while b + 3 < end {
-        if marks[b] == stamp {
-            return Some(b);
-        }
-        if marks[b + 1] == stamp {
-            return Some(b + 1);
-        }
-        if marks[b + 2] == stamp {
-            return Some(b + 2);
-        }
-        if marks[b + 3] == stamp {
-            return Some(b + 3);
-        }
-        b += 4;
-    }
-    next_single(marks, stamp, b, end)
-}
-
 // The next request from a place on, before the end, that is to be looked at.
 pub(crate) fn next_met(
     groups: &[u16],
@@ -145,7 +121,7 @@ pub(crate) fn next_met(
     from: usize,
     end: usize,
 ) -> Option<usize>
-    requires { (from ≤ place_limit) × (end ≤ place_limit) × (who ≡ Followed → end ≤ length marks.now) }
+    requires { (end ≤ place_limit) × (who ≡ Followed → end ≤ length marks.now) }
     ensures { NextMet groups.now marks.now stamp who from end result }
 {
     match who {

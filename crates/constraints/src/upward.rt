@@ -35,7 +35,7 @@ pub(crate) fn mark_above(supers: &[u8], classes: &[u16], a: usize, stamp: u16, a
     }
 }
 
-// Class c is class d or below it.
+// Class c is class d or below it. The walk upward is a loop of its own, since it begins at c itself and ends at d: one walk for both would take a closure.
 pub(crate) fn is_below(supers: &[u8], c: usize, d: usize) -> bool
     ensures { result ≡ below (super_in supers.now) c d }
 {

@@ -21,6 +21,7 @@ use Rattle.laws.specs.Walk.{turn-cases}
 use Rattle.laws.specs.InOrder.{turn-does, Goes}
 use Rattle.definition.specs.Places.{stops_from, lacks_from, lacks_at, stops_in, lacks_in, Place, place, first_place, Verdict, unplaced, placed, verdict_by, verdict_on, desk_verdict}
 use Rattle.verifier.proofs.DecodingLaws.{decode-within}
+use Rattle.verifier.proofs.StopLaws.{lacks-any}
 
 after_none : {A B : Type 0} (o : Option A) (f : A → B) → is_none (o >>= λ a. some (f a)) ≡ is_none o
 unfolding is_none ◌>>=◌
@@ -74,36 +75,6 @@ module _ (version : ℕ) (code : List ℕ) (maps : List Map) (result : ℕ) wher
           turn-number more p (λ q u. verify version code maps result k q more u) (λ q u. stops_from version code maps result k q more u) (λ q u. ih q more u)
           (turn version code maps result p s)
 
-  -- and a map lacks somewhere exactly if the method is unmapped
-
-  either : (p : ℕ) (o : Option ℕ) (a b c : Bool) → c ≡ is_some o → (a || b || c) ≡ is_some {A = ℕ} (elim (a || b) as (λ _. Option ℕ) [ true ↦ some p | false ↦ o ])
-  unfolding is_some
-  either p o true b c e = refl
-  either p o false true c e = refl
-  either p o false false c e = e
-
-  lack-number : (k p : ℕ) (wants : Bool) → unmapped_from version code maps result k p wants ≡ is_some (lacks_from version code maps k p wants)
-  unfolding unmapped_from lacks_from is_some
-  lack-number zero p wants = refl
-  lack-number (suc k) p wants = go (decode version code p) (λ q w. lack-number k q w)
-    where
-      go : (o : Option Decoded) → ((q : ℕ) (w : Bool) → unmapped_from version code maps result k q w ≡ is_some (lacks_from version code maps k q w))
-          → (elim o as (λ _. Bool) [
-            | none ↦ false
-            | some i ↦ (wants && is_none (map_at maps p)) || any (λ q. is_none (map_at maps q)) (to_list (target i.instruction)) || unmapped_from version code maps result k (p + i.size) (not (goes_on i.instruction))
-          ]) ≡ is_some {A = ℕ} (elim o as (λ _. Option ℕ) [
-            | none ↦ none
-            | some i ↦ elim ((wants && is_none (map_at maps p)) || any (λ q. is_none (map_at maps q)) (to_list (target i.instruction))) as (λ _. Option ℕ) [
-              | true ↦ some p
-              | false ↦ lacks_from version code maps k (p + i.size) (not (goes_on i.instruction))
-            ]
-          ])
-      go none ih = refl
-      go (some i) ih =
-          either p (lacks_from version code maps k (p + i.size) (not (goes_on i.instruction))) (wants && is_none (map_at maps p))
-          (any (λ q. is_none (map_at maps q)) (to_list (target i.instruction))) (unmapped_from version code maps result k (p + i.size) (not (goes_on i.instruction)))
-          (ih (p + i.size) (not (goes_on i.instruction)))
-
 module _ (k : Class) where
   method-number : (m : Method) → is_none (notes_of_method k m) ≡ is_some (stops_in k m)
   unfolding notes_of_method stops_in is_none is_some ◌>>=◌
@@ -127,7 +98,7 @@ module _ (k : Class) where
       go : (b : Bool)
           → (b && unmapped_from k.version m.code m.maps m.signature.result (length m.code) 0 false)
           ≡ is_some {A = ℕ} (elim b as (λ _. Option ℕ) [ true ↦ lacks_from k.version m.code m.maps (length m.code) 0 false | false ↦ none ])
-      go true = lack-number k.version m.code m.maps m.signature.result (length m.code) 0 false
+      go true = sym (lacks-any k.version m.code m.maps m.signature.result (length m.code) 0 false)
       go false = refl
 
   class-number : (j : ℕ) (ms : List Method) → is_none (notes_of k ms) ≡ is_some (first_place (stops_in k) j ms)

@@ -11,16 +11,22 @@ use definition::numbers::{
     CACHE_LENGTH, CLASSES_LENGTH, COUNTS_LENGTH, FRAMES_LENGTH, KEPT_LENGTH, OBJECTS_LENGTH,
     SUBTYPES_LENGTH, TIES_LENGTH,
 };
-use driver::Outcome;
 use std::io;
 use std::io::{Read, Write};
 
 const LIST: usize = 600;
 
-fn least(a: usize, b: usize) -> usize
-    ensures { result ≤ b }
-{
-    if a < b { a } else { b }
+// The eight tables of a store, lent together.
+#[derive(Drop)]
+struct Tables<'a> {
+    counts: &'a mut [u16],
+    classes: &'a mut [u16],
+    kept: &'a mut [u8],
+    cache: &'a mut [u16],
+    ties: &'a mut [u16],
+    subtypes: &'a mut [u16],
+    objects: &'a mut [u32],
+    frames: &'a mut [u32],
 }
 
 // Cell i of the input.
@@ -28,8 +34,7 @@ fn cell_at(input: &[u8], i: usize) -> u32
     requires { i ≤ 1000 }
 {
     let place = i * 4;
-    u32::from(cells::short_at(input, place)) * 65536
-        + u32::from(cells::short_at(input, place + 2))
+    u32::from(cells::short_at(input, place)) * 65536 + u32::from(cells::short_at(input, place + 2))
 }
 
 // How many cells are lent, of so many that there are.
@@ -37,99 +42,58 @@ fn lent(input: &[u8], i: usize, there: usize) -> usize
     requires { i ≤ 1000 }
     ensures { result ≤ there }
 {
-    least(cell_at(input, i) as usize, there)
+    (cell_at(input, i) as usize).min(there)
 }
 
-fn read_list(input: &[u8], list: &mut [u32]) {
-    let mut i = 0;
-    while i < LIST {
-        cells::put(list, i, cell_at(input, i + 3));
-        i += 1;
+fn read_list(input: &[u8], list: &mut [u32; LIST]) {
+    for i in 0..LIST {
+        list[i] = cell_at(input, i + 3);
     }
 }
 
-fn print_number(writer: &mut impl Write, n: usize) -> io::Result<()> {
-    writeln!(writer, "{n}")
-}
-
-fn print_outcome(writer: &mut impl Write, outcome: Outcome) -> io::Result<()> {
+fn print_outcome(writer: &mut impl Write, outcome: Option<usize>) -> io::Result<()> {
     match outcome {
-        Outcome::Refused => writer.write_all(b"Refused\n"),
-        Outcome::Performed(n) => print_number(writer, n),
+        Some(n) => writeln!(writer, "{n}"),
+        None => writeln!(writer, "Refused"),
     }
 }
 
 fn print_cells(writer: &mut impl Write, table: &[u32]) -> io::Result<()> {
-    let mut i = 0;
-    while i < table.len() {
-        print_number(writer, cells::at(table, i) as usize)?;
-        i += 1;
+    for cell in table {
+        writeln!(writer, "{cell}")?;
     }
     Ok(())
 }
 
 // A sum in which each cell's place counts.
-fn sum_on(sum: usize, cell: usize) -> usize {
-    ((sum % 4294967296) * 65599 + cell % 4294967296) % 4294967296
-}
-
-fn print_sum8(writer: &mut impl Write, table: &[u8]) -> io::Result<()> {
-    let mut sum = 0;
-    let mut i = 0;
-    while i < table.len() {
-        sum = sum_on(sum, usize::from(cells::at(table, i)));
-        i += 1;
+fn print_sum<T: Copy + Into<u32>>(writer: &mut impl Write, table: &[T]) -> io::Result<()> {
+    let mut sum: u32 = 0;
+    for cell in table {
+        sum = sum.wrapping_mul(65599).wrapping_add((*cell).into());
     }
-    print_number(writer, sum)
-}
-
-fn print_sum16(writer: &mut impl Write, table: &[u16]) -> io::Result<()> {
-    let mut sum = 0;
-    let mut i = 0;
-    while i < table.len() {
-        sum = sum_on(sum, usize::from(cells::at(table, i)));
-        i += 1;
-    }
-    print_number(writer, sum)
-}
-
-fn print_sum32(writer: &mut impl Write, table: &[u32]) -> io::Result<()> {
-    let mut sum = 0;
-    let mut i = 0;
-    while i < table.len() {
-        sum = sum_on(sum, cells::at(table, i) as usize);
-        i += 1;
-    }
-    print_number(writer, sum)
+    writeln!(writer, "{sum}")
 }
 
 // Drives the list on as many cells of the counts, the list and the answers as the input says.
 fn drive_lent(
     writer: &mut impl Write,
-    counts: &mut [u16],
-    classes: &mut [u16],
-    kept: &mut [u8],
-    cache: &mut [u16],
-    ties: &mut [u16],
-    subtypes: &mut [u16],
-    objects: &mut [u32],
-    frames: &mut [u32],
+    tables: &mut Tables,
     list: &[u32],
     input: &[u8],
     answers: &mut [u32],
 ) -> io::Result<()> {
-    let n = lent(input, 0, counts.len());
+    let n = lent(input, 0, tables.counts.len());
     let rows = lent(input, 1, list.len());
     let told = lent(input, 2, answers.len());
     let outcome = driver::drive(
-        &mut counts[..n],
-        classes,
-        kept,
-        cache,
-        ties,
-        subtypes,
-        objects,
-        frames,
+        &mut tables.counts[..n],
+        tables.classes,
+        tables.kept,
+        tables.cache,
+        tables.ties,
+        tables.subtypes,
+        tables.objects,
+        tables.frames,
         &list[..rows],
         input,
         &mut answers[..told],
@@ -137,25 +101,15 @@ fn drive_lent(
     print_outcome(writer, outcome)
 }
 
-fn print_sums(
-    writer: &mut impl Write,
-    counts: &[u16],
-    classes: &[u16],
-    kept: &[u8],
-    cache: &[u16],
-    ties: &[u16],
-    subtypes: &[u16],
-    objects: &[u32],
-    frames: &[u32],
-) -> io::Result<()> {
-    print_sum16(writer, counts)?;
-    print_sum16(writer, classes)?;
-    print_sum8(writer, kept)?;
-    print_sum16(writer, cache)?;
-    print_sum16(writer, ties)?;
-    print_sum16(writer, subtypes)?;
-    print_sum32(writer, objects)?;
-    print_sum32(writer, frames)
+fn print_sums(writer: &mut impl Write, tables: &Tables) -> io::Result<()> {
+    print_sum(writer, tables.counts)?;
+    print_sum(writer, tables.classes)?;
+    print_sum(writer, tables.kept)?;
+    print_sum(writer, tables.cache)?;
+    print_sum(writer, tables.ties)?;
+    print_sum(writer, tables.subtypes)?;
+    print_sum(writer, tables.objects)?;
+    print_sum(writer, tables.frames)
 }
 
 // Reads until the input is full or ends.
@@ -174,7 +128,7 @@ fn read_full(reader: &mut impl Read, input: &mut [u8]) -> io::Result<()> {
     Ok(())
 }
 
-fn read_input(reader: &mut impl Read, list: &mut [u32], input: &mut [u8]) -> io::Result<()> {
+fn read_input(reader: &mut impl Read, list: &mut [u32; LIST], input: &mut [u8]) -> io::Result<()> {
     read_full(reader, input)?;
     read_list(input, list);
     Ok(())
@@ -183,25 +137,14 @@ fn read_input(reader: &mut impl Read, list: &mut [u32], input: &mut [u8]) -> io:
 // Drives the list, and prints the answers and the sums.
 fn play(
     writer: &mut impl Write,
-    counts: &mut [u16],
-    classes: &mut [u16],
-    kept: &mut [u8],
-    cache: &mut [u16],
-    ties: &mut [u16],
-    subtypes: &mut [u16],
-    objects: &mut [u32],
-    frames: &mut [u32],
+    tables: &mut Tables,
     list: &[u32],
     input: &[u8],
     answers: &mut [u32],
 ) -> io::Result<()> {
-    drive_lent(
-        writer, counts, classes, kept, cache, ties, subtypes, objects, frames, list, input, answers,
-    )?;
+    drive_lent(writer, tables, list, input, answers)?;
     print_cells(writer, answers)?;
-    print_sums(
-        writer, counts, classes, kept, cache, ties, subtypes, objects, frames,
-    )
+    print_sums(writer, tables)
 }
 
 fn main(rt: HostRuntime) -> io::Result<()> {
@@ -213,22 +156,19 @@ fn main(rt: HostRuntime) -> io::Result<()> {
     let mut subtypes = [0u16; SUBTYPES_LENGTH];
     let mut objects = [0u32; OBJECTS_LENGTH];
     let mut frames = [0u32; FRAMES_LENGTH];
+    let mut tables = Tables {
+        counts: &mut counts,
+        classes: &mut classes,
+        kept: &mut kept,
+        cache: &mut cache,
+        ties: &mut ties,
+        subtypes: &mut subtypes,
+        objects: &mut objects,
+        frames: &mut frames,
+    };
     let mut list = [0u32; LIST];
     let mut input = [0u8; 65536];
     let mut answers = [0u32; 300];
     read_input(&mut rt.stdin(), &mut list, &mut input)?;
-    play(
-        &mut rt.stdout(),
-        &mut counts,
-        &mut classes,
-        &mut kept,
-        &mut cache,
-        &mut ties,
-        &mut subtypes,
-        &mut objects,
-        &mut frames,
-        &list,
-        &input,
-        &mut answers,
-    )
+    play(&mut rt.stdout(), &mut tables, &list, &input, &mut answers)
 }

@@ -1,5 +1,6 @@
 -- What the drive of a list of calls leaves: the tables, and a row of three cells for each answer.
-use Rattle.std.specs.Prelude.{◌≡◌, Bool, true, false, List, ℕ, ◌+◌, ◌*◌, ◌<◌, length, get_or}
+use Rattle.std.specs.Prelude as Std
+use Rattle.std.specs.Prelude.{◌≡◌, Some, None, Bool, true, false, List, ℕ, ◌+◌, ◌*◌, ◌<◌, length, get_or}
 use Rattle.definition.specs.Lists.{write_rows}
 use Rattle.definition.specs.declared.Reply.{Reply}
 use Rattle.definition.specs.declared.Reply.TheVariants.{Accepted, Defined, Stepped, RanFor, Swept, Denied}
@@ -7,8 +8,6 @@ use Rattle.definition.specs.Answers.{number_of, ends_in, count_of}
 use Rattle.definition.specs.Tables.{Tables, put_three}
 use Rattle.definition.specs.Calls.{done, Call, boot, perform_all}
 use Rattle.definition.specs.Safety.{Safe}
-pub use Rattle.driver.specs.declared.Outcome.{Outcome}
-pub use Rattle.driver.specs.declared.Outcome.TheVariants.{Refused, Performed}
 
 -- an answer's number, the number that a run ends in, and the count of its steps that ran
 unfoldable pub put_reply : List ℕ → ℕ → Reply → List ℕ
@@ -23,20 +22,20 @@ is_accepted (Denied r) = false
 is_accepted (Swept n) = false
 
 pub record Driven : Type 0 where
-  pub outcome : Outcome
+  pub outcome : Std.Option ℕ
   pub tables : Tables
   pub answers : List ℕ
 
-abbrev pub driven : Outcome → Tables → List ℕ → Driven
+abbrev pub driven : Std.Option ℕ → Tables → List ℕ → Driven
 driven r t cells = record { outcome = r; tables = t; answers = cells }
 
 -- calls performed, the first being call i: their answers go into the rows from row i on, as far as the table has room
 unfoldable pub performed : List Call → ℕ → Tables → List ℕ → Driven
-performed cs i t answers = let d = perform_all cs t in driven (Performed (i + length cs)) d.tables (write_rows put_reply d.answer i answers)
+performed cs i t answers = let d = perform_all cs t in driven (Some (i + length cs)) d.tables (write_rows put_reply d.answer i answers)
 
 -- boot, and if it is accepted the calls; else nothing is changed
 unfoldable pub drive : List Call → Tables → List ℕ → Driven
-drive cs t answers = elim (is_accepted (boot t).answer) as (λ _. Driven) [ true ↦ performed cs 0 (boot t).tables answers | false ↦ driven Refused t answers ]
+drive cs t answers = elim (is_accepted (boot t).answer) as (λ _. Driven) [ true ↦ performed cs 0 (boot t).tables answers | false ↦ driven None t answers ]
 
 -- From an accepted boot: what is left is safe, and no number told of an answer is that of 'stuck'
 pub record SafelyDriven (cs : List Call) (t u : Tables) (answers : List ℕ) : Type 0 where

@@ -1,4 +1,5 @@
 -- What a drive from an accepted boot leaves is safe, and its answers' cells say so.
+use Rattle.std.specs.Prelude as Std
 use Rattle.std.specs.Prelude.{◌≡◌, refl, Bool, true, false, List, [], ◌∷◌, ◌≢◌, ℕ, zero, suc, ◌+◌, ◌*◌, ◌<◌, ◌≤◌, length, get_or, ltb}
 use Rattle.std.proofs.Common.{sym, ap, subst, ◌∙◌, arith, length-set, get_or-set_same, ltb-true, ltb-false}
 use Rattle.std.proofs.Math.Option.{some}
@@ -12,7 +13,7 @@ use Rattle.definition.specs.Tables.{Tables}
 use Rattle.definition.specs.Calls.{Done, done, Call, boot, perform, perform_all}
 use Rattle.definition.specs.Safety.{Safe}
 use Rattle.safety.specs.Safety.{safety}
-use Rattle.driver.specs.Driven.{Outcome, put_reply, is_accepted, Driven, driven, performed, drive, SafelyDriven}
+use Rattle.driver.specs.Driven.{put_reply, is_accepted, Driven, driven, performed, drive, SafelyDriven}
 use Rattle.driver.specs.Laws.{drive-after}
 
 -- a cell that a number other than 14 is written into, if there is such a cell, does not read 14
@@ -68,7 +69,7 @@ unfolding perform_all
 answers-length [] t = refl
 answers-length (c ∷ cs) t = ap suc (answers-length cs (perform c t).tables)
 
-pub drive-safe : (cs : List Call) (t u : Tables) (before after : List ℕ) (r : Outcome) → driven r u after ≡ drive cs t before
+pub drive-safe : (cs : List Call) (t u : Tables) (before after : List ℕ) (r : Std.Option ℕ) → driven r u after ≡ drive cs t before
     → (driven r u after ≡ drive cs t before) × ((boot t).answer ≡ Accepted → SafelyDriven cs t u after)
 unfolding performed
 drive-safe cs t u before after r e = (e, λ h. safely (e ∙ drive-after cs t before (ap is_accepted h)) (safety t h cs))

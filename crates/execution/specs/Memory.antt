@@ -1,4 +1,5 @@
 -- What a run remembers: at the index of a place its tag and its fact. What is recalled was remembered of that very place.
+use Rattle.std.specs.Prelude as Rust
 use Rattle.std.specs.Prelude.{◌≡◌, Bool, List, ◌≢◌, ℕ, ◌+◌, ◌*◌, ◌%◌, ◌<◌, ◌≤◌, length, set}
 use Rattle.std.proofs.Math.Path.{refl, sym, ap}
 use Rattle.std.proofs.Common.{◌∙◌, arith, get_or-set_same, get_or-set_other, eqb-true, eq-eqb, ne_eqb}
@@ -14,8 +15,8 @@ index_of key p r = (67 * key + p + 8 * r) % 512
 unfoldable pub tag_of : ℕ → ℕ → ℕ → ℕ
 tag_of key p r = 32768 * key + 64 * p + r + 1
 
-unfoldable pub recalled : List ℕ → List ℕ → ℕ → ℕ → ℕ → ℕ → ℕ
-recalled T A key p r none = pick (eqb (get_or T (index_of key p r) 0) (tag_of key p r)) (get_or A (index_of key p r) 0) none
+unfoldable pub recalled : List ℕ → List ℕ → ℕ → ℕ → ℕ → Rust.Option ℕ
+recalled T A key p r = pick (eqb (get_or T (index_of key p r) 0) (tag_of key p r)) (Rust.Some (get_or A (index_of key p r) 0)) Rust.None
 
 -- every fact that is recalled is right
 abbrev pub Right : (ℕ → ℕ → ℕ → ℕ → Type 0) → List ℕ → List ℕ → Type 0
@@ -53,20 +54,23 @@ module _ (P : ℕ → ℕ → ℕ → ℕ → Type 0) where
           let z : index_of l q s ≢ index_of key p r = eqb-false _ _ x in
           rw (get_or-set_other A (index_of key p r) (index_of l q s) f 0 z) (h l q s c d (sym (get_or-set_other T (index_of key p r) (index_of l q s) (tag_of key p r) 0 z) ∙ e))
 
-  -- what is recalled, and isn't `none`, is right
-  pub recalled-right : (T A : List ℕ) → Right P T A → (key p r none x : ℕ) → p < 512 → r < 64 → x ≡ recalled T A key p r none → x ≢ none → P key p r x
+  -- what is recalled is right
+  pub recalled-right : (T A : List ℕ) → Right P T A → (key p r x : ℕ) → p < 512 → r < 64 → Rust.Some x ≡ recalled T A key p r → P key p r x
   unfolding recalled pick
-  recalled-right T A h key p r none x a b e n = go (eqb (get_or T (index_of key p r) 0) (tag_of key p r)) refl e
+  recalled-right T A h key p r x a b e = go (eqb (get_or T (index_of key p r) 0) (tag_of key p r)) refl e
     where
-      go : (u : Bool) → eqb (get_or T (index_of key p r) 0) (tag_of key p r) ≡ u → x ≡ pick u (get_or A (index_of key p r) 0) none → P key p r x
-      go true q z = rw z (h key p r a b (eqb-true _ _ q))
-      go false q z = absurd (n z)
+      go : (u : Bool) → eqb (get_or T (index_of key p r) 0) (tag_of key p r) ≡ u → Rust.Some x ≡ pick u (Rust.Some (get_or A (index_of key p r) 0)) Rust.None → P key p r x
+      go true q z = let y : x ≡ get_or A (index_of key p r) 0 = cc in rw y (h key p r a b (eqb-true _ _ q))
+      go false q z = cc
 
-module _ (T A : List ℕ) (key p r none i x y : ℕ) (at : i ≡ index_of key p r) (cell : x ≡ get_or T i 0) (tag : y ≡ tag_of key p r) where
-  pub recalled-not : x ≢ y → none ≡ recalled T A key p r none
+module _ (T A : List ℕ) (key p r i x y : ℕ) (at : i ≡ index_of key p r) (cell : x ≡ get_or T i 0) (tag : y ≡ tag_of key p r) where
+  pub recalled-not : x ≢ y → Rust.None ≡ recalled T A key p r
   unfolding recalled pick
   recalled-not h = let z : get_or T (index_of key p r) 0 ≢ tag_of key p r = λ e. h (cell ∙ (ap (λ (w : ℕ). get_or T w 0) at ∙ (e ∙ sym tag))) in rw (ne_eqb _ _ z)
 
-  pub recalled-is : x ≡ y → (f : ℕ) → f ≡ get_or A i 0 → f ≡ recalled T A key p r none
+  pub recalled-is : x ≡ y → (f : ℕ) → f ≡ get_or A i 0 → Rust.Some f ≡ recalled T A key p r
   unfolding recalled pick
-  recalled-is h f e = let z : get_or T (index_of key p r) 0 ≡ tag_of key p r = sym (ap (λ (w : ℕ). get_or T w 0) at) ∙ (sym cell ∙ (h ∙ tag)) in rw (eq-eqb _ _ z) (e ∙ ap (λ (w : ℕ). get_or A w 0) at)
+  recalled-is h f e =
+      let z : get_or T (index_of key p r) 0 ≡ tag_of key p r = sym (ap (λ (w : ℕ). get_or T w 0) at) ∙ (sym cell ∙ (h ∙ tag)) in
+      let w : f ≡ get_or A (index_of key p r) 0 = e ∙ ap (λ (v : ℕ). get_or A v 0) at in
+      rw (eq-eqb _ _ z, w)

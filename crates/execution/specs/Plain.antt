@@ -26,6 +26,8 @@ use Rattle.frames.specs.declared.Cell.{Cell}
 use Rattle.instructions.specs.declared.Plan.{Plan}
 use Rattle.instructions.specs.declared.Plan.TheVariants.{Refuse, Keep, Jump, Above, Local, Give, Finish, Field, Enter, Make}
 use Rattle.instructions.specs.Plans.{decoded, meaning, FrameOnly}
+use Rattle.std.specs.Prelude as Rust
+use Rattle.std.specs.Prelude.{MatchOption}
 use Rattle.execution.specs.declared.walking.Moved.{Moved}
 use Rattle.execution.specs.RowCells.{IsRow, operand_row, local-row}
 
@@ -51,30 +53,8 @@ Wrote R n (Enter d x) q e G = ⊥
 Wrote R n (Make d c o) q e G = ⊥
 
 -- what a function answers that carries a plan out on the row, or leaves it
-pub record Putting (R : List ℕ) (n : ℕ) (x : Plan) (m : Moved) (G : List ℕ) : Type 0 where
-  pub did : m.on ≡ true → Wrote R n x m.point m.depth G
-  pub not : m.on ≡ false → G ≡ R
-
-pub left_so : (R : List ℕ) (n : ℕ) (x : Plan) (m : Moved) → m.on ≡ false → Putting R n x m R
-left_so R n x m h = record { did = λ e. absurd (true≢false (sym e ∙ h)); not = λ e. refl }
-
-pub put-so : (R : List ℕ) (n : ℕ) (x : Plan) (m : Moved) (G : List ℕ) → m.on ≡ true → Wrote R n x m.point m.depth G → Putting R n x m G
-put-so R n x m G h w = record { did = λ e. w; not = λ e. absurd (true≢false (sym h ∙ e)) }
-
-module _ (R : List ℕ) (n : ℕ) (x : Plan) (m : Moved) (G : List ℕ) where
-  pub put-value : (d : ℕ) (v : Cell) → x ≡ Above d v → m.on ≡ true
-      → (d < 16) × (m.point ≡ n) × (m.depth ≡ d + 1) × (G ≡ put_operand 0 (moved R 0 n (d + 1)) d (value_of v.kind v.bits)) → Putting R n x m G
-  put-value d v e o w = rw e (put-so R n (Above d v) m G o w)
-
-  pub put-set : (d j : ℕ) (v : Cell) → x ≡ Local d j v → m.on ≡ true
-      → (d ≤ 16) × (m.point ≡ n) × (m.depth ≡ d) × (G ≡ put_local 0 (moved R 0 n d) j (value_of v.kind v.bits)) → Putting R n x m G
-  put-set d j v e o w = rw e (put-so R n (Local d j v) m G o w)
-
-  pub put-kept : (d : ℕ) → x ≡ Keep d → Putting R n (Keep d) m G → Putting R n x m G
-  put-kept d e w = rw e w
-
-  pub put-jumped : (d a q : ℕ) → x ≡ Jump d a → q ≡ a → Putting R q (Keep d) m G → Putting R n x m G
-  put-jumped d a q e f w = let z : Putting R a (Keep d) m G = rw f at w in rw e (record { did = z.did; not = z.not })
+abbrev pub Putting : List ℕ → ℕ → Plan → Rust.Option Moved → List ℕ → Type 0
+Putting R n x m G = MatchOption m (G ≡ R) (λ s. Wrote R n x s.point s.depth G)
 
 -- One instruction at point p, of a frame with d operands in the row R, leaves the row G with point q and e operands
 pub record Step (v : ℕ) (code R : List ℕ) (p d q e : ℕ) (G : List ℕ) : Type 0 where
@@ -86,20 +66,16 @@ pub record Step (v : ℕ) (code R : List ℕ) (p d q e : ℕ) (G : List ℕ) : T
   pub wrote : Wrote R (p + size) plan q e G
 
 -- what a function answers that does it or not
-pub record Stepping (v : ℕ) (code R : List ℕ) (p d : ℕ) (m : Moved) (G : List ℕ) : Type 0 where
-  pub did : m.on ≡ true → Step v code R p d m.point m.depth G
-  pub not : m.on ≡ false → G ≡ R
+abbrev pub Stepping : ℕ → List ℕ → List ℕ → ℕ → ℕ → Rust.Option Moved → List ℕ → Type 0
+Stepping v code R p d m G = MatchOption m (G ≡ R) (λ s. Step v code R p d s.point s.depth G)
 
 -- the same, where the opcode at point p is o
-abbrev pub Does : Opcode → List ℕ → List ℕ → ℕ → ℕ → Moved → List ℕ → Type 0
+abbrev pub Does : Opcode → List ℕ → List ℕ → ℕ → ℕ → Rust.Option Moved → List ℕ → Type 0
 Does o code R p d m G = (v : ℕ) → opcode_of v (get_or code p 0) ≡ o → Stepping v code R p d m G
 
 -- and whatever the code
-abbrev pub DoesAnywhere : Opcode → List ℕ → ℕ → ℕ → Moved → List ℕ → Type 0
+abbrev pub DoesAnywhere : Opcode → List ℕ → ℕ → ℕ → Rust.Option Moved → List ℕ → Type 0
 DoesAnywhere o R p d m G = (code : List ℕ) → p < length code → Does o code R p d m G
-
-pub stayed : (v : ℕ) (code R : List ℕ) (p d : ℕ) (m : Moved) → m.on ≡ false → Stepping v code R p d m R
-stayed v code R p d m h = record { did = λ e. absurd (true≢false (sym e ∙ h)); not = λ e. refl }
 
 -- A plan that is right for the frame in the row is right for it wherever the row lies
 
@@ -143,18 +119,16 @@ module _ (F : List ℕ) (b : ℕ) (R : List ℕ) (h : IsRow F b R) where
   }
 
 -- an instruction that was read, decided on and carried out in the row; the decision names the row's first cell b and its e operands
-pub stepping : (v : ℕ) (code R : List ℕ) (p d : ℕ) (m : Moved) (G : List ℕ) → d ≤ 16 → (i : Instruction) (n : ℕ) (x : Plan) (b e : ℕ) → decode v code p ≡ some (decoded i n)
+pub stepping : (v : ℕ) (code R : List ℕ) (p d : ℕ) (m : Rust.Option Moved) (G : List ℕ) → d ≤ 16 → (i : Instruction) (n : ℕ) (x : Plan) (b e : ℕ) → decode v code p ≡ some (decoded i n)
     → (b ≡ 0) × (e ≡ d) → FrameOnly R b e i x → Putting R (p + n) x m G → Stepping v code R p d m G
-stepping v code R p d m G l i n x b e r q f w = record {
-  did = λ o. record {
-    instruction = i;
-    size = n;
-    plan = x;
-    reads = r;
-    only = λ F a h. only_row F a R h d i x l (rw (q.0, q.1) at f) (p + n) m.point m.depth G (w.did o);
-    wrote = w.did o;
-  };
-  not = w.not;
+stepping v code R p d Rust.None G l i n x b e r q f w = w
+stepping v code R p d (Rust.Some m) G l i n x b e r q f w = record {
+  instruction = i;
+  size = n;
+  plan = x;
+  reads = r;
+  only = λ F a h. only_row F a R h d i x l (rw (q.0, q.1) at f) (p + n) m.point m.depth G w;
+  wrote = w;
 }
 
 -- Decoding, by the opcode

@@ -14,6 +14,8 @@ use Rattle.instructions.specs.declared.Plan.TheVariants.{Above, Keep}
 use Rattle.instructions.specs.Plans.{decoded}
 use Rattle.instructions.specs.Operands.{is_kind}
 use Rattle.execution.specs.Memory.{recalled}
+use Rattle.std.specs.Prelude as Rust
+use Rattle.std.specs.Prelude.{MatchOption}
 use Rattle.execution.specs.declared.walking.Moved.{Moved}
 use Rattle.execution.specs.Opcodes.{opcode_numbered, Numbers, numbered-at}
 use Rattle.execution.specs.Plain as plain
@@ -28,7 +30,7 @@ pub record Known (T A N O : List ℕ) (key p kind bits j : ℕ) : Type 0 where
   pub made : is_used N bits ≡ true
   pub place : p < 512
   pub class : get_or O (bits * 33) 0 < 64
-  pub fact : j ≡ recalled T A key p (get_or O (bits * 33) 0) 16
+  pub fact : Rust.Some j ≡ recalled T A key p (get_or O (bits * 33) 0)
   pub low : j < 16
 
 -- getfield: the row G with point q and e operands
@@ -66,12 +68,11 @@ pub data Step (T A N : List ℕ) (key v : ℕ) (code R O : List ℕ) (p d q e : 
   wrote : Put T A N key v code R O p d q e G P → Step T A N key v code R O p d q e G P
 
 -- what a function answers that does it or not
-pub record Stepping (T A N : List ℕ) (key v : ℕ) (code R O : List ℕ) (p d : ℕ) (m : Moved) (G P : List ℕ) : Type 0 where
-  pub did : m.on ≡ true → Step T A N key v code R O p d m.point m.depth G P
-  pub not : m.on ≡ false → (G ≡ R) × (P ≡ O)
+abbrev pub Stepping : List ℕ → List ℕ → List ℕ → ℕ → ℕ → List ℕ → List ℕ → List ℕ → ℕ → ℕ → Rust.Option Moved → List ℕ → List ℕ → Type 0
+Stepping T A N key v code R O p d m G P = MatchOption m ((G ≡ R) × (P ≡ O)) (λ s. Step T A N key v code R O p d s.point s.depth G P)
 
 -- the same, where the opcode at point p is o
-abbrev pub Does : Opcode → List ℕ → List ℕ → List ℕ → ℕ → List ℕ → List ℕ → List ℕ → ℕ → ℕ → Moved → List ℕ → List ℕ → Type 0
+abbrev pub Does : Opcode → List ℕ → List ℕ → List ℕ → ℕ → List ℕ → List ℕ → List ℕ → ℕ → ℕ → Rust.Option Moved → List ℕ → List ℕ → Type 0
 Does o T A N key code R O p d m G P = (v : ℕ) → opcode_of v (get_or code p 0) ≡ o → Stepping T A N key v code R O p d m G P
 
 -- Decoding
@@ -93,45 +94,35 @@ module _ (v : ℕ) (code : List ℕ) (p : ℕ) (fit : p + 7 ≤ length code) whe
 
 -- What each function answers
 
-module _ (T A N : List ℕ) (key : ℕ) (code R O : List ℕ) (p d : ℕ) (m : Moved) where
-  pub stayed : (o : Opcode) → m.on ≡ false → Does o T A N key code R O p d m R O
-  stayed o h v _ = record { did = λ e. absurd (true≢false (sym e ∙ h)); not = λ e. (refl, refl) }
-
-  pub plainly : (o : Opcode) (G : List ℕ) → plain.Does o code R p d m G → Does o T A N key code R O p d m G O
-  plainly o G s v f = record { did = λ e. within ((s v f).did e) refl; not = λ e. ((s v f).not e, refl) }
+module _ (T A N : List ℕ) (key : ℕ) (code R O : List ℕ) (p d : ℕ) where
+  pub plainly : (m : Rust.Option Moved) (o : Opcode) (G : List ℕ) → plain.Does o code R p d m G → Does o T A N key code R O p d m G O
+  plainly Rust.None o G s v f = (s v f, refl)
+  plainly (Rust.Some m) o G s v f = within (s v f) refl
 
   module _ (G : List ℕ) (few : d ≤ 16) (fit : p + 7 ≤ length code) (j x y w z : ℕ) where
-    pub did-get : d ≢ 0 → value_of x y ≡ operand_at R 0 (d - 1) → Known T A N O key p x y j → value_of w z ≡ field_at O y j
+    pub did-get : (m : Rust.Option Moved) → d ≢ 0 → value_of x y ≡ operand_at R 0 (d - 1) → Known T A N O key p x y j → value_of w z ≡ field_at O y j
         → Putting R (p + 7) (Above (d - 1) (cell w z)) m G → Does OpGetfield T A N key code R O p d m G O
-    did-get s t k f g v e = record {
-      did = λ o. got (record { object = cell x y; slot = j; value = cell w z; reads = decode-getfield v code p fit e; some-d = s; few = few; top = t; known = k; field = f; wrote = g.did o }) refl;
-      not = λ h. (g.not h, refl);
-    }
+    did-get Rust.None s t k f g v e = (g, refl)
+    did-get (Rust.Some m) s t k f g v e =
+        got (record { object = cell x y; slot = j; value = cell w z; reads = decode-getfield v code p fit e; some-d = s; few = few; top = t; known = k; field = f; wrote = g }) refl
 
-    pub did-put : (P : List ℕ) → 2 ≤ d → value_of w z ≡ operand_at R 0 (d - 1) → is_kind (short_at code (p + 5)) w z ≡ true
+    pub did-put : (m : Moved) (P : List ℕ) → 2 ≤ d → value_of w z ≡ operand_at R 0 (d - 1) → is_kind (short_at code (p + 5)) w z ≡ true
         → value_of x y ≡ operand_at R 0 (d - 1 - 1) → Known T A N O key p x y j
-        → Putting R (p + 7) (Keep (d - 1 - 1)) m G → m.on ≡ true → P ≡ put_field y O j (value_of w z) → Does OpPutfield T A N key code R O p d m G P
-    did-put P s l i t k g on f v e = record {
-      did = λ o. wrote (record {
-        object = cell x y;
-        slot = j;
-        value = cell w z;
-        reads = decode-putfield v code p fit e;
-        two = s;
-        few = few;
-        last = l;
-        kind = i;
-        top = t;
-        known = k;
-        wrote = g.did o;
-        left = f;
-      });
-      not = λ h. absurd (true≢false (sym on ∙ h));
-    }
-
-  -- the row was not written
-  pub unwritten : (o : Opcode) (G : List ℕ) (n e : ℕ) → Putting R n (Keep e) m G → m.on ≡ false → Does o T A N key code R O p d m G O
-  unwritten o G n e g h v _ = record { did = λ z. absurd (true≢false (sym z ∙ h)); not = λ z. (g.not z, refl) }
+        → Putting R (p + 7) (Keep (d - 1 - 1)) (Rust.Some m) G → P ≡ put_field y O j (value_of w z) → Does OpPutfield T A N key code R O p d (Rust.Some m) G P
+    did-put m P s l i t k g f v e = wrote (record {
+      object = cell x y;
+      slot = j;
+      value = cell w z;
+      reads = decode-putfield v code p fit e;
+      two = s;
+      few = few;
+      last = l;
+      kind = i;
+      top = t;
+      known = k;
+      wrote = g;
+      left = f;
+    })
 
 -- What is written: point and operand count stand in their cells, class and method stay, and there are few operands
 pub step-cells : (T A N : List ℕ) (key v : ℕ) (code R O : List ℕ) (p d q e : ℕ) (G P : List ℕ) → length R ≡ 52 → Step T A N key v code R O p d q e G P → Cells R q e G × (e ≤ 16)
@@ -152,25 +143,24 @@ here T A N key v code R O = (refl, refl)
 
 -- one instruction more
 walk-on : (T A N : List ℕ) (key v : ℕ) (code R O S Q G P : List ℕ) (k p d : ℕ) (m : Moved) → Walked T A N key v code R O k S Q → At S p d
-    → Stepping T A N key v code S Q p d m G P → m.on ≡ true → Walked T A N key v code R O (k + 1) G P × At G m.point m.depth
+    → Step T A N key v code S Q p d m.point m.depth G P → Walked T A N key v code R O (k + 1) G P × At G m.point m.depth
 unfolding Walked
-walk-on T A N key v code R O S Q G P k p d m w a h o =
-    let s : Step T A N key v code S Q p d m.point m.depth G P = h.did o in
+walk-on T A N key v code R O S Q G P k p d m w a s =
     let z : Cells S m.point m.depth G × (m.depth ≤ 16) = step-cells T A N key v code S Q p d m.point m.depth G P a.3 s in
     let c : Cells S m.point m.depth G = z.0 in
     (rw (add-one k) (S, Q, w, rw (a.0, a.1, c.point, c.depth) at s), (c.point, c.depth, z.1, c.size ∙ a.3))
 
 -- the same for every version that the numbers xs are of, of which there is one; the opcode's number is n, off the byte b at point p
-module _ (T A N : List ℕ) (key : ℕ) (code R O S Q G P xs : List ℕ) (k p d : ℕ) (m : Moved) (w : (v : ℕ) → Numbers v xs → Walked T A N key v code R O k S Q) (n : ℕ)
+module _ (T A N : List ℕ) (key : ℕ) (code R O S Q G P xs : List ℕ) (k p d : ℕ) (w : (v : ℕ) → Numbers v xs → Walked T A N key v code R O k S Q) (n : ℕ) (m : Rust.Option Moved)
     (does : Does (opcode_numbered n) T A N key code S Q p d m G P) (a b i : ℕ) (e : a ≡ p) (f : b ≡ get_or code a 0) (l : b < 256) (g : i ≡ b) (q : n ≡ get_or xs i 0) where
   stepped : (v : ℕ) → Numbers v xs → Stepping T A N key v code S Q p d m G P
   stepped v h = does v (numbered-at v xs code p a b i n e f l g q h)
 
-  pub walk_more : (v : ℕ) × Numbers v xs → At S p d → m.on ≡ true → ((v : ℕ) → Numbers v xs → Walked T A N key v code R O (k + 1) G P) × At G m.point m.depth
-  walk_more z t o = (
-    λ v h. (walk-on T A N key v code R O S Q G P k p d m (w v h) t (stepped v h) o).0,
-    (walk-on T A N key z.0 code R O S Q G P k p d m (w z.0 z.1) t (stepped z.0 z.1) o).1,
+  pub walk_more : (s : Moved) → m ≡ Rust.Some s → (v : ℕ) × Numbers v xs → At S p d → ((v : ℕ) → Numbers v xs → Walked T A N key v code R O (k + 1) G P) × At G s.point s.depth
+  walk_more s is z t = (
+    λ v h. (walk-on T A N key v code R O S Q G P k p d s (w v h) t (rw is at (stepped v h))).0,
+    (walk-on T A N key z.0 code R O S Q G P k p d s (w z.0 z.1) t (rw is at (stepped z.0 z.1))).1,
   )
 
-  pub walk-stops : m.on ≡ false → (v : ℕ) → Numbers v xs → Walked T A N key v code R O k G P
-  walk-stops o v h = let z = (stepped v h).not o in rw (z.0, z.1) (w v h)
+  pub walk-stops : m ≡ Rust.None → (v : ℕ) → Numbers v xs → Walked T A N key v code R O k G P
+  walk-stops is v h = let z = rw is at (stepped v h) in rw (z.0, z.1) (w v h)

@@ -1,4 +1,6 @@
 -- A run, step by step: it stops at the first answer other than ran, or when its steps are used up. What a new object asks for is carried along.
+use Rattle.std.specs.Prelude as Rust
+use Rattle.definition.specs.declared.Refusal.{Refusal}
 use Rattle.std.specs.Prelude.{◌≡◌, refl, Bool, true, false, List, [], ◌≢◌, eqb}
 use Rattle.std.proofs.Math.Path.{sym, ap}
 use Rattle.std.proofs.Common.{◌∙◌, true≢false, add-one}
@@ -148,16 +150,16 @@ run-begins n t = let e : n - 0 ≡ n = omega arith in rw e
 -- Run
 
 module _ (n : ℕ) (t : Tables) where
-  run-broken : broken t ≡ true → done (Denied (Word 1)) t ≡ run n t
+  pub run-broken : broken t ≡ true → done (Denied (Word 1)) t ≡ run n t
   unfolding run
   run-broken h = rw (h, run)
 
   module _ (whole : broken t ≡ false) where
-    run_none : n ≡ 0 → done (Denied (Word 3)) t ≡ run n t
+    pub run_none : n ≡ 0 → done (Denied (Word 3)) t ≡ run n t
     unfolding run
     run_none e = rw (whole, run, e)
 
-    run-many : 65535 < n → done (Denied (Word 3)) t ≡ run n t
+    pub run-many : 65535 < n → done (Denied (Word 3)) t ≡ run n t
     unfolding run
     run-many e = rw (whole, run, le-leb 1 n (omega arith), lt-leb n 65535 e)
 
@@ -165,26 +167,12 @@ module _ (n : ℕ) (t : Tables) where
     unfolding run
     run-some e l d h = h ∙ rw (whole, run, le-leb 1 n (omega arith), le-leb n 65535 l)
 
--- The word that a run of n steps is refused with, 0 if it isn't
+-- How many steps a run of n may take, or its refusal
 
-pub record Ruled (t : Tables) (n w : ℕ) : Type 0 where
-  pub allowed : w ≡ 0 → (broken t ≡ false) × (n ≢ 0) × (n ≤ 65535)
-  pub denied : w ≢ 0 → done (Denied (Word w)) t ≡ run n t
+abbrev pub Ruled : Tables → ℕ → Rust.Result ℕ Refusal → Type 0
+Ruled t n (Rust.Ok k) = (broken t ≡ false) × (n ≢ 0) × (n ≤ 65535) × (k ≡ n)
+Ruled t n (Rust.Err r) = done (Denied r) t ≡ run n t
 
-module _ (n : ℕ) (t : Tables) where
-  pub ruled-broken : broken t ≡ true → Ruled t n 1
-  ruled-broken h = record { allowed = λ e. absurd (omega arith); denied = λ e. run-broken n t h }
-
-  module _ (whole : broken t ≡ false) where
-    pub ruled-none : n ≡ 0 → Ruled t n 3
-    ruled-none h = record { allowed = λ e. absurd (omega arith); denied = λ e. run_none n t whole h }
-
-    pub ruled-many : 65535 < n → Ruled t n 3
-    ruled-many h = record { allowed = λ e. absurd (omega arith); denied = λ e. run-many n t whole h }
-
-    pub ruled-runs : n ≢ 0 → n ≤ 65535 → Ruled t n 0
-    ruled-runs h l = record { allowed = λ e. (whole, h, l); denied = λ e. absurd (e refl) }
-
-  -- a run that is not refused
-  pub run-allowed : (w : ℕ) → Ruled t n w → w ≡ 0 → (d : Done Reply) → d ≡ run_from step_tables n 0 Idle t → d ≡ run n t
-  run-allowed w h e d q = let a = h.allowed e in run-some n t a.0 a.1 a.2 d q
+-- a run that is not refused
+pub run-allowed : (n : ℕ) (t : Tables) (k : ℕ) → Ruled t n (Rust.Ok k) → (d : Done Reply) → d ≡ run_from step_tables k 0 Idle t → d ≡ run n t
+run-allowed n t k a d q = run-some n t a.0 a.1 a.2 d (rw a.3 at q)

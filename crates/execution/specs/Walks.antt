@@ -125,7 +125,7 @@ module _ (N L K E I S F : List ℕ) (k n b v : ℕ) (code : List ℕ) (turns : k
       → FactOf N L K E I (loader_in N L (get_or R 0 0)) i (get_or O (bits * 33) 0) j
   fact R O st p kind bits j h i s d =
       let f : Fact N L K E I key p (get_or O (bits * 33) 0) j =
-      recalled-right (Fact N L K E I) T A right.right key p (get_or O (bits * 33) 0) 16 j h.place h.class h.fact (λ e. omega (arith, h.low)) in
+      recalled-right (Fact N L K E I) T A right.right key p (get_or O (bits * 33) 0) j h.place h.class h.fact in
       f.holds (get_or R 0 0) (get_or R 1 0) st.method st.number i s (rw (← st.source, ← st.version) d)
 
   module _ (R O G P : List ℕ) (st : Standing R O) (p d : ℕ) (deep : d ≡ get_or R 3 0) (q e : ℕ) where

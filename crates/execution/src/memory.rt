@@ -25,16 +25,16 @@ fn tag_of(key: u16, p: u16, r: u16) -> u32
     32768 * u32::from(key) + 64 * u32::from(p) + u32::from(r) + 1
 }
 
-// What is remembered of a place, or `none`.
-pub(crate) fn recall(tags: &[u32], facts: &[u32], key: u16, p: u16, r: u16, none: u32) -> u32
+// What is remembered of a place, if anything is.
+pub(crate) fn recall(tags: &[u32], facts: &[u32], key: u16, p: u16, r: u16) -> Option<u32>
     requires { key < 512 }
-    ensures { result ≡ recalled tags.now facts.now key p r none }
+    ensures { result ≡ recalled tags.now facts.now key p r }
 {
     let i = index_of(key, p, r);
     if cells::at(tags, i) != tag_of(key, p, r) {
-        return none;
+        return None;
     }
-    cells::at(facts, i)
+    Some(cells::at(facts, i))
 }
 
 // A fact is remembered.

@@ -6,13 +6,13 @@ ghost use Rattle.execution.specs.Plain.{Inside};
 ghost use Rattle.execution.specs.Reaches.{Known, Does, Walked};
 
 use crate::memory::recall;
-use crate::walking::{Moved, keep, one, put_above, stay};
+use crate::walking::{Moved, keep, one, put_above};
 use definition::Opcode;
 use definition::numbers::{FIELD_LIMIT, KIND_OBJECT};
 use frames::Cell;
 use instructions::Plan;
 
-// The slot that is remembered of a place for the receiver x, 16 if none is.
+// The slot that is remembered of a place for the receiver x, if one is.
 fn slot_of(
     tags: &[u32],
     facts: &[u32],
@@ -21,24 +21,19 @@ fn slot_of(
     x: Cell,
     key: u16,
     p: u32,
-) -> u32
+) -> Option<u32>
     requires { key < 512 }
-    ensures { result < 16 → Known tags.now facts.now counts.now objects.now key p x.kind x.bits result }
+    ensures { (j : ℕ) → result ≡ Some j → Known tags.now facts.now counts.now objects.now key p x.kind x.bits j }
 {
-    if x.kind != KIND_OBJECT {
-        return FIELD_LIMIT;
-    }
-    if 512 <= p {
-        return FIELD_LIMIT;
-    }
-    if !frames::is_used(counts, x.bits) {
-        return FIELD_LIMIT;
+    if x.kind != KIND_OBJECT || 512 <= p || !frames::is_used(counts, x.bits) {
+        return None;
     }
     let r = frames::object_class(objects, x.bits);
     if 64 <= r {
-        return FIELD_LIMIT;
+        return None;
     }
-    recall(tags, facts, key, p as u16, r as u16, FIELD_LIMIT)
+    let j = recall(tags, facts, key, p as u16, r as u16)?;
+    if j < FIELD_LIMIT { Some(j) } else { None }
 }
 
 fn getfield(
@@ -51,21 +46,18 @@ fn getfield(
     key: u16,
     p: u32,
     d: u32,
-) -> Moved
+) -> Option<Moved>
     requires { (key < 512) × Inside code.now p × (d ≤ operand_limit) }
     ensures { Does Opcode.OpGetfield tags.now facts.now counts.now key code.now row.old objects.now p d result row.new objects.now }
 {
     if code.len() - (p as usize) <= 6 {
-        return stay();
+        return None;
     }
     if d == 0 {
-        return stay();
+        return None;
     }
     let x = frames::operand(row, 0, d - 1);
-    let j = slot_of(tags, facts, counts, objects, x, key, p);
-    if FIELD_LIMIT <= j {
-        return stay();
-    }
+    let j = slot_of(tags, facts, counts, objects, x, key, p)?;
     let v = frames::field(objects, x.bits, j as u8);
     put_above(row, p + 7, Plan::Above(d - 1, v))
 }
@@ -80,33 +72,27 @@ fn putfield(
     key: u16,
     p: u32,
     d: u32,
-) -> Moved
+) -> Option<Moved>
     requires { (key < 512) × Inside code.now p × (d ≤ operand_limit) }
     ensures { Does Opcode.OpPutfield tags.now facts.now counts.now key code.now row.old objects.old p d result row.new objects.new }
 {
     let at = p as usize;
     if code.len() - at <= 6 {
-        return stay();
+        return None;
     }
     if d < 2 {
-        return stay();
+        return None;
     }
     let last = d - 1;
     let v = frames::operand(row, 0, last);
     if !instructions::is_kind(cells::short_at(code, at + 5), v) {
-        return stay();
+        return None;
     }
     let x = frames::operand(row, 0, last - 1);
-    let j = slot_of(tags, facts, counts, objects, x, key, p);
-    if FIELD_LIMIT <= j {
-        return stay();
-    }
-    let m = keep(row, p + 7, last - 1);
-    if !m.on {
-        return m;
-    }
+    let j = slot_of(tags, facts, counts, objects, x, key, p)?;
+    let m = keep(row, p + 7, last - 1)?;
     frames::write_field(objects, x.bits, j as u8, v);
-    m
+    Some(m)
 }
 
 // One instruction, whose opcode has that number.
@@ -121,7 +107,7 @@ fn reach(
     key: u16,
     p: u32,
     d: u32,
-) -> Moved
+) -> Option<Moved>
     requires { (key < 512) × Inside code.now p × (d ≤ operand_limit) }
     ensures { Does (opcode_numbered number) tags.now facts.now counts.now key code.now row.old objects.old p d result row.new objects.new }
 {
@@ -156,23 +142,23 @@ pub(crate) fn walk(
 {
     let mut p = frames::point(row, 0);
     let mut d = frames::depth(row, 0);
-    let mut k: u16 = 0;
-    while k < most {
+    for k in 0..most {
         let at = p as usize;
         if code.len() <= at {
             return Pace { steps: k, stop: 0 };
         }
         let number = cells::at(numbers, usize::from(cells::at(code, at)));
-        let m = reach(tags, facts, counts, objects, row, code, number, key, p, d);
-        if !m.on {
+        let Some(m) = reach(tags, facts, counts, objects, row, code, number, key, p, d) else {
             return Pace {
                 steps: k,
                 stop: number,
             };
-        }
+        };
         p = m.point;
         d = m.depth;
-        k += 1;
     }
-    Pace { steps: k, stop: 0 }
+    Pace {
+        steps: most,
+        stop: 0,
+    }
 }

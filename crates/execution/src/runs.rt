@@ -3,6 +3,7 @@ ghost use Rattle.std.specs.Prelude.{◌≡◌, false, ◌<◌};
 ghost use Rattle.definition.specs.Numbers.{object_limit};
 ghost use Rattle.definition.specs.Tables.{tables};
 ghost use Rattle.definition.specs.Broken.{broken};
+ghost use Rattle.resolution.specs.Quick.{tables_over};
 ghost use Rattle.definition.specs.Calls.{done, step_tables, run_from, run};
 ghost use Rattle.execution.specs.Opcodes.{numbers};
 ghost use Rattle.execution.specs.Facts.{Minds};
@@ -13,7 +14,7 @@ use crate::deciding::Room;
 use crate::noting::note;
 use crate::opcodes::OPCODE_NUMBERS;
 use crate::turns::step_unbroken;
-use definition::numbers::{RUN_LIMIT, WORD_UNKNOWN};
+use definition::numbers::{RUN_LIMIT, WORD_BROKEN, WORD_UNKNOWN};
 use definition::{Answer, Refusal, Reply};
 use resolution::Base;
 
@@ -119,29 +120,36 @@ fn steps(
     Reply::RanFor(k, last)
 }
 
-// The word that a run of n steps is refused with, 0 if it isn't.
-fn denied(
-    counts: &[u16],
-    classes: &[u16],
-    kept: &[u8],
-    cache: &[u16],
+// How many steps a run of n may take, or its refusal.
+fn allowed(
+    base: &Base,
     ties: &[u16],
     subtypes: &[u16],
     objects: &[u32],
     frames: &[u32],
     n: u32,
-) -> u8
-    ensures { Ruled (tables counts.now classes.now kept.now cache.now ties.now subtypes.now objects.now frames.now) n result }
+) -> Result<u16, Refusal>
+    ensures { Ruled (tables_over base.now ties.now subtypes.now objects.now frames.now) n result }
 {
     if store::is_broken(
-        counts, classes, kept, cache, ties, subtypes, objects, frames,
+        base.counts,
+        base.classes,
+        base.kept,
+        base.cache,
+        ties,
+        subtypes,
+        objects,
+        frames,
     ) {
-        return 1;
+        return Err(Refusal::Word(WORD_BROKEN));
     }
     if n == 0 {
-        return WORD_UNKNOWN;
+        return Err(Refusal::Word(WORD_UNKNOWN));
     }
-    if RUN_LIMIT < n { WORD_UNKNOWN } else { 0 }
+    if RUN_LIMIT < n {
+        return Err(Refusal::Word(WORD_UNKNOWN));
+    }
+    Ok(n as u16)
 }
 
 // From so many steps on a run remembers what it finds: a shorter one doesn't pay for the memory.
@@ -206,13 +214,16 @@ pub fn run(
 ) -> Reply
     ensures { done result (tables counts.new classes.now kept.now cache.now ties.new subtypes.now objects.new frames.new) ≡ run n (tables counts.old classes.now kept.now cache.now ties.old subtypes.now objects.old frames.old) }
 {
-    let word = denied(
-        counts, classes, kept, cache, ties, subtypes, objects, frames, n,
-    );
-    if word != 0 {
-        return Reply::Denied(Refusal::Word(word));
+    let base = Base {
+        counts,
+        classes,
+        kept,
+        cache,
+    };
+    match allowed(&base, ties, subtypes, objects, frames, n) {
+        Err(refusal) => Reply::Denied(refusal),
+        Ok(steps) => steps_allowed(
+            counts, classes, kept, cache, ties, subtypes, objects, frames, steps,
+        ),
     }
-    steps_allowed(
-        counts, classes, kept, cache, ties, subtypes, objects, frames, n as u16,
-    )
 }

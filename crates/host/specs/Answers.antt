@@ -1,6 +1,6 @@
 -- What a host is told of a call: the answer table's six cells, and the number that the call returns.
-use Rattle.std.specs.Prelude.{◌≡◌, refl, List, [], ◌∷◌, ℕ, set}
-use Rattle.std.proofs.Common.{sym, ap, subst, ◌∙◌, set-set}
+use Rattle.std.specs.Prelude.{◌≡◌, refl, List, [], ◌∷◌, ℕ, ◌+◌, ◌<◌, ◌≤◌, length, get_or, take, set}
+use Rattle.std.proofs.Common.{sym, ap, subst, ◌∙◌, arith, add-one, take_all, set-set}
 use Rattle.definition.specs.Lists.{write_rows}
 use Rattle.definition.specs.Answers.{number, number_of_step, number_of, count_of, refusal_details, step_details, details}
 use Rattle.definition.specs.declared.Refusal.{Refusal}
@@ -14,7 +14,7 @@ use Rattle.definition.specs.Reasons.{Tried, tries, try_load}
 use Rattle.definition.specs.Calls.{Load, Call, call_step, call_run, Done, done, turn, step_tables, of_step, run, perform}
 use Rattle.definition.specs.Changeover.{changeover}
 use Rattle.definition.specs.First.Tables.{FirstTables}
-use Rattle.layout.specs.Cells.{cells-sets}
+use Rattle.layout.specs.Cells.{cell-rows, cells-sets, rows-copy}
 use Rattle.tasks.specs.Turns.{turn_of, turn_is}
 
 unfoldable pub kind_of : Reply → ℕ
@@ -90,10 +90,14 @@ reply-number k (RanFor n a) = refl
 reply-number k (Denied r) = refusal-number 0 r
 reply-number k (Swept n) = refl
 
--- six cells written one after another
-pub cells-written : (a b c d e f : ℕ) (t : List ℕ)
-    → set (set (set (set (set (set t 0 a) 1 b) 2 c) 3 d) 4 e) 5 f ≡ write_rows set (a ∷ b ∷ c ∷ d ∷ e ∷ f ∷ []) 0 t
-cells-written a b c d e f t = sym (cells-sets (a ∷ b ∷ c ∷ d ∷ e ∷ f ∷ []) 0 t)
+-- cells written one by one
+pub cell-written : (row t : List ℕ) (i : ℕ) → i < length row → set (write_rows set (take i row) 0 t) i (get_or row i 0) ≡ write_rows set (take (i + 1) row) 0 t
+cell-written row t i h =
+    let e : 0 + i ≡ i = omega arith in
+    rw (add-one i, rows-copy cell-rows row 0 0 i t (omega arith), e)
+
+pub cells-whole : (row : List ℕ) (i : ℕ) → length row ≤ i → take i row ≡ row
+cells-whole row i h = take_all i row h
 
 pub called : (c : Call) (t u : Tables) (before after : List ℕ) (reply : Reply) (k r : ℕ) → record { answer = reply; tables = u } ≡ perform c t
     → k ≡ turn_of t.counts → Reported k reply before after r → Called c t u before after r

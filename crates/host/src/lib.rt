@@ -18,11 +18,12 @@ ghost use Rattle.host.specs.Rows.{RowTold};
 ghost use Rattle.host.specs.Answers.{kind_of, number_given, Reported, Called, ChangedOver, tried_cells, TriedOn};
 
 use definition::numbers::OFFER_LIMIT;
-use definition::{Reply, Trial};
-use listing::Listed;
+use definition::{Refusal, Reply, Trial};
+use listing::Constraint;
 use searching::Finding;
 
 // 0 accepted, 1 defined, 2 stepped, 3 ran, 4 denied, 5 swept.
+#[tactic(auto, unfolding(crate::specs::Answers::kind_of))]
 fn kind_of(reply: Reply) -> u32
     ensures { result ≡ kind_of reply }
 {
@@ -36,30 +37,33 @@ fn kind_of(reply: Reply) -> u32
     }
 }
 
+#[tactic(auto, unfolding(definition::specs::Answers::count_of))]
 fn count_of(reply: Reply) -> u32
     ensures { result ≡ count_of reply }
 {
     match reply {
-        Reply::Accepted => 0,
-        Reply::Defined(_) => 0,
-        Reply::Stepped(_) => 0,
         Reply::RanFor(count, _) => u32::from(count),
-        Reply::Denied(_) => 0,
-        Reply::Swept(_) => 0,
+        _ => 0,
     }
 }
 
 // The number of a reply whose details have that refusal's number: a run is accepted, whatever its last answer is.
+#[tactic(auto, unfolding(crate::specs::Answers::number_given))]
 fn number_of(reply: Reply, refusal: u8) -> u8
     ensures { result ≡ number_given reply refusal }
 {
     match reply {
-        Reply::Accepted => refusal,
-        Reply::Defined(_) => refusal,
-        Reply::Stepped(_) => refusal,
         Reply::RanFor(_, _) => 0,
-        Reply::Denied(_) => refusal,
-        Reply::Swept(_) => refusal,
+        _ => refusal,
+    }
+}
+
+// Cells written one after another from the table's front on, as many as it has room for.
+fn put_cells(answer: &mut [u32], row: &[u32])
+    ensures { answer.new ≡ write_rows set row.now 0 answer.old }
+{
+    for (i, cell) in row.iter().enumerate() {
+        cells::put(answer, i, *cell);
     }
 }
 
@@ -68,24 +72,26 @@ fn report(answer: &mut [u32], turn: u8, reply: Reply) -> u8
     ensures { Reported turn reply answer.old answer.new result }
 {
     let details = script::details_of(turn, reply);
-    let refusal = details.refusal;
-    cells::put(answer, 0, kind_of(reply));
-    cells::put(answer, 1, u32::from(refusal));
-    cells::put(answer, 2, details.one);
-    cells::put(answer, 3, details.two);
-    cells::put(answer, 4, details.three);
-    cells::put(answer, 5, count_of(reply));
-    number_of(reply, refusal)
+    put_cells(
+        answer,
+        &[
+            kind_of(reply),
+            u32::from(details.refusal),
+            details.one,
+            details.two,
+            details.three,
+            count_of(reply),
+        ],
+    );
+    number_of(reply, details.refusal)
 }
 
 // A tried load's reply, with the chain's length where a run has its steps.
 fn report_trial(answer: &mut [u32], turn: u8, trial: Trial) -> u8
     ensures { ((list : List ℕ) → answer.new ≡ write_rows set (tried_cells turn (tries trial.reply trial.count list)) 0 answer.old) × (result ≡ number_of trial.reply) }
 {
-    let reply = trial.reply;
-    let count = trial.count;
-    let number = report(answer, turn, reply);
-    cells::put(answer, 5, u32::from(count));
+    let number = report(answer, turn, trial.reply);
+    cells::put(answer, 5, u32::from(trial.count));
     number
 }
 
@@ -98,12 +104,7 @@ const NONE: u32 = 7;
 fn report_kind(answer: &mut [u32], kind: u32, one: u32)
     ensures { answer.new ≡ write_rows set (six_cells kind one) 0 answer.old }
 {
-    cells::put(answer, 0, kind);
-    cells::put(answer, 1, 0);
-    cells::put(answer, 2, one);
-    cells::put(answer, 3, 0);
-    cells::put(answer, 4, 0);
-    cells::put(answer, 5, 0);
+    put_cells(answer, &[kind, 0, one, 0, 0, 0]);
 }
 
 // The next digit of an order of n loads of which i are told, 0 behind the last.
@@ -118,11 +119,9 @@ fn report_order(answer: &mut [u32], n: u32, order: u32)
     ensures { answer.new ≡ write_rows set (order_cells (numbers_in n order)) 6 answer.old }
 {
     let mut rest = order;
-    let mut i = 0;
-    while i < OFFER_LIMIT {
+    for i in 0..OFFER_LIMIT {
         cells::put(answer, 6 + i, next_offer(n, i, rest));
         rest = rest / 8;
-        i += 1;
     }
 }
 
@@ -506,28 +505,26 @@ pub extern "C" fn tariff_how(
 fn write_row(answer: &mut [u32], kind: u32, one: u16, two: u16, three: u16)
     ensures { answer.new ≡ write_rows set (kind ∷ 0 ∷ one ∷ two ∷ three ∷ 0 ∷ []) 0 answer.old }
 {
-    cells::put(answer, 0, kind);
-    cells::put(answer, 1, 0);
-    cells::put(answer, 2, u32::from(one));
-    cells::put(answer, 3, u32::from(two));
-    cells::put(answer, 4, u32::from(three));
-    cells::put(answer, 5, 0);
+    put_cells(
+        answer,
+        &[kind, 0, u32::from(one), u32::from(two), u32::from(three), 0],
+    );
 }
 
 // 8 a tie, 9 a subtype constraint.
-fn report_row(answer: &mut [u32], listed: Listed) -> u8
+fn report_row(answer: &mut [u32], listed: Result<Constraint, Refusal>) -> u8
     ensures { RowTold (listed_of listed) answer.old answer.new result }
 {
     match listed {
-        Listed::Denied(r) => report(answer, 0, Reply::Denied(r)),
-        Listed::Tied(one, two, name) => {
+        Ok(Constraint::Tied(one, two, name)) => {
             write_row(answer, 8, one, two, name);
             0
         }
-        Listed::Below(loader, low, high) => {
+        Ok(Constraint::Below(loader, low, high)) => {
             write_row(answer, 9, loader, low, high);
             0
         }
+        Err(refusal) => report(answer, 0, Reply::Denied(refusal)),
     }
 }
 

@@ -1,17 +1,17 @@
 -- Lines at the front of an input: how long the first is, whether it is ready, and that lines so cut off are the definition's.
-use Rattle.std.specs.Prelude.{◌≡◌, refl, Bool, true, false, List, [], ◌∷◌, ◌++◌, ◌≢◌, ℕ, suc, ◌+◌, ◌≤◌, ◌<◌, get_or, take, drop, eqb, ltb}
+use Rattle.std.specs.Prelude.{◌≡◌, refl, Some, Bool, true, false, List, [], ◌∷◌, ◌++◌, ◌≢◌, ℕ, suc, ◌+◌, ◌≤◌, ◌<◌, get_or, take, drop, eqb, ltb}
 use Rattle.std.proofs.Common.{sym, ap, ◌∙◌, append-nil, add-one, drop_of_length-le}
 use Rattle.std.proofs.Math.Option.{Option, none, some}
-use Rattle.std.proofs.Math.Nat.{pos_of_ne-zero}
 use native.Mathlib.Omega.{arith}
 use Rattle.std.proofs.Math.ListN.{length}
 use Rattle.std.proofs.Math.Seq.{drop-length}
 use Rattle.std.proofs.lemmas.List.{take-append-le, drop-append-le}
 use borrow.Author.Tests.{eq-eqb, ne_eqb, eqb-true, eqb-false, lt-ltb, le-ltb, ltb-true, ltb-false}
+use Rattle.std.specs.Bool.{then_some}
+use Rattle.cells.specs.Optional.{optional}
 use Rattle.definition.specs.Script.{grow, lines_of}
 use Rattle.script.specs.Parts.{next-byte}
-pub use Rattle.lines.specs.declared.Next.{Next}
-pub use Rattle.lines.specs.declared.Next.TheVariants.{Line, NotYet}
+pub use Rattle.lines.specs.declared.Cut.{Cut}
 
 -- how many bytes the first line has: those before the first byte 10, or all
 unfoldable pub line_length : List ℕ → ℕ
@@ -19,10 +19,6 @@ line_length [] = 0
 line_length (b ∷ bs) = elim (eqb b 10) [ true ↦ 0 | false ↦ suc (line_length bs) ]
 
 -- a line at the front of an input: its bytes, and how many with its end
-pub record Cut : Type 0 where
-  pub bytes : ℕ
-  pub size : ℕ
-
 abbrev pub cut : ℕ → ℕ → Cut
 cut n k = record { bytes = n; size = k }
 
@@ -36,10 +32,6 @@ first_line last s = elim (ltb (line_length s) (length s)) [
   | true ↦ some (cut (line_length s) (line_length s + 1))
   | false ↦ elim (alone last (length s)) [ true ↦ some (cut (length s) (length s)) | false ↦ none ]
 ]
-
-unfoldable pub next_of : Option Cut → Next
-next_of none = NotYet
-next_of (some c) = Line c.bytes c.size
 
 -- Laws
 
@@ -83,27 +75,15 @@ module _ (last : Bool) (s : List ℕ) where
   unfolding first_line
   first-open h = rw (le-ltb (line_length s) (length s) h, first_line)
 
-  pub next-whole : line_length s < length s → Line (line_length s) (line_length s + 1) ≡ next_of (first_line last s)
-  unfolding next_of
+  pub next-whole : line_length s < length s → Some (cut (line_length s) (line_length s + 1)) ≡ optional (first_line last s)
   next-whole h = rw (first-whole h)
 
-  pub next-long : length s ≤ line_length s → 65536 < length s → Line (length s) (length s) ≡ next_of (first_line last s)
-  unfolding next_of alone
-  next-long h l = rw (first-open h, lt-ltb 65536 (length s) l, alone)
-
-  pub next-open : length s ≤ line_length s → length s ≤ 65536 → last ≡ false → NotYet ≡ next_of (first_line last s)
-  unfolding next_of alone
-  next-open h l e = rw (first-open h, le-ltb 65536 (length s) l, alone, e)
-
-  pub next-none : length s ≤ line_length s → last ≡ true → length s ≡ 0 → NotYet ≡ next_of (first_line last s)
-  unfolding next_of alone
-  next-none h e z = let l : length s ≤ 65536 = omega arith in rw (first-open h, le-ltb 65536 (length s) l, alone, e, z)
-
-  pub next_last : length s ≤ line_length s → length s ≤ 65536 → last ≡ true → length s ≢ 0 → Line (length s) (length s) ≡ next_of (first_line last s)
-  unfolding next_of alone
-  next_last h l e z =
-      let more : 0 < length s = pos_of_ne-zero z in
-      rw (first-open h, le-ltb 65536 (length s) l, alone, e, lt-ltb 0 (length s) more)
+  pub next-open : length s ≤ line_length s → then_some (alone last (length s)) (cut (length s) (length s)) ≡ optional (first_line last s)
+  next-open h = rw (first-open h) (step (alone last (length s)))
+    where
+      step : (b : Bool) → then_some b (cut (length s) (length s)) ≡ optional (elim b as (λ _. Option Cut) [ true ↦ some (cut (length s) (length s)) | false ↦ none ])
+      step true = refl
+      step false = refl
 
 -- no bytes are no line
 pub first-none : (last : Bool) → first_line last [] ≡ none
@@ -149,17 +129,6 @@ pub kind-within : (last : Bool) (s : List ℕ) (c : Cut) → Kind last s c → W
 kind-within last s c (whole h e) = rw e (record { bytes = omega arith; some = omega arith; size = omega arith })
 kind-within last s c (long h l e) = rw e (record { bytes = omega arith; some = omega arith; size = omega arith })
 kind-within last s c (only q h l e) = rw e (record { bytes = omega arith; some = omega arith; size = omega arith })
-
--- a line that is next is the first that is ready
-pub next-some : (o : Option Cut) (b k : ℕ) → next_of o ≡ Line b k → o ≡ some (cut b k)
-unfolding next_of
-next-some none b k e = let z : ◌≡◌ {A = ℕ} 0 1 = cc in absurd (omega arith)
-next-some (some c) b k e = let p : c.bytes ≡ b = cc in let q : c.size ≡ k = cc in rw (← p, ← q)
-
-pub next-not : (o : Option Cut) → next_of o ≡ NotYet → o ≡ none
-unfolding next_of
-next-not none e = refl
-next-not (some c) e = let z : ◌≡◌ {A = ℕ} 0 1 = cc in absurd (omega arith)
 
 -- Lines cut off one by one are `lines_of`
 

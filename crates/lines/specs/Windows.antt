@@ -1,6 +1,6 @@
 -- Bytes of a table: those of a window moved to its front, and a part from a place on.
-use Rattle.std.specs.Prelude.{◌≡◌, List, [], ◌++◌, ℕ, suc, ◌+◌, ◌-◌, ◌≤◌, ◌<◌, length, get_or, set, take, drop}
-use Rattle.std.proofs.Common.{sym, ◌∙◌, append-nil, append_assoc, arith, length-append, length-take, length-drop, take-append-drop, drop_of_length-le, take_all, drop-drop, get_or-drop, get_or-append-add}
+use Rattle.std.specs.Prelude.{◌≡◌, refl, Bool, true, false, ltb, min, List, [], ◌++◌, ℕ, suc, ◌+◌, ◌-◌, ◌≤◌, ◌<◌, length, get_or, set, take, drop}
+use Rattle.std.proofs.Common.{sym, ◌∙◌, ltb-true, ltb-false, append-nil, append_assoc, arith, length-append, length-take, length-drop, take-append-drop, drop_of_length-le, take_all, drop-drop, get_or-drop, get_or-append-add}
 use Rattle.definition.specs.Lists.{write_rows}
 use Rattle.layout.specs.Cells.{cell-rows, rows-copy, cells-block}
 
@@ -30,7 +30,7 @@ moved_more from i w f h =
     rw (k, rows-copy cell-rows xs 0 0 (i - from) w (omega (arith, length-drop from w)), e, past (take (i - from) xs) w i short h, get_or-drop from w (i - from) 0, g)
 
 -- only the bytes that are there count
-pub moved-end : (from to : ℕ) (w : List ℕ) → length w ≤ to → moved from (length w) w ≡ moved from to w
+moved-end : (from to : ℕ) (w : List ℕ) → length w ≤ to → moved from (length w) w ≡ moved from to w
 unfolding moved
 moved-end from to w h =
     let xs = drop from w in
@@ -40,6 +40,16 @@ moved-end from to w h =
 pub moved_same : (from i j : ℕ) (w : List ℕ) → i - from ≡ j - from → moved from i w ≡ moved from j w
 unfolding moved
 moved_same from i j w e = rw e
+
+pub moved-min : (from to : ℕ) (w : List ℕ) → moved from (min to (length w)) w ≡ moved from to w
+moved-min from to w = step (ltb to (length w)) refl
+  where
+    step : (t : Bool) → ltb to (length w) ≡ t → moved from (min to (length w)) w ≡ moved from to w
+    step true q = let e : min to (length w) ≡ to = omega (arith, ltb-true to (length w) q) in rw e
+    step false q =
+        let h = ltb-false to (length w) q in
+        let e : min to (length w) ≡ length w = omega (arith, h) in
+        rw e (moved-end from to w h)
 
 -- A part of a table from a place on, which is all that is there; and the table with that part changed
 

@@ -1,14 +1,15 @@
 // Lines of a script carried out: a call is read off a line's bytes, made, and its answer printed.
 #![tactic(auto)]
 
-ghost use Rattle.std.specs.Prelude.{◌≡◌, ◌≤◌, length};
+ghost use Rattle.std.specs.Prelude.{◌≡◌, ◌≤◌, Some, length};
 ghost use Rattle.definition.specs.Tables.{tables};
 ghost use Rattle.definition.specs.Calls.{perform};
 ghost use Rattle.definition.specs.Script.{read_line, turned, carry_out};
 ghost use Rattle.calls.specs.Made.{call_of};
-ghost use Rattle.lines.specs.Asked.{asked_by, Heard};
+ghost use Rattle.cells.specs.Optional.{optional};
+ghost use Rattle.lines.specs.Asked.{call_by, file_size, Heard};
 ghost use Rattle.lines.specs.Carried.{left, printed_on, carried_on};
-ghost use Rattle.lines.specs.Ready.{line_length, first_line, next_of};
+ghost use Rattle.lines.specs.Ready.{line_length, alone, first_line};
 ghost use Rattle.lines.specs.Windows.{moved};
 ghost use Rattle.lines.specs.Scripts.{carry_lines};
 ghost use Rattle.lines.specs.Told.{told, told_of};
@@ -16,25 +17,11 @@ ghost use Rattle.lines.specs.Told.{told, told_of};
 use calls::Call;
 use script::Command;
 
-// The call that a line asks for and the length of its file, or none.
+// The first line of an input: how many bytes it has, and how many with its end.
 #[derive(Clone, Copy)]
-enum Asked {
-    Calls(Call, usize),
-    Nothing,
-}
-
-// What a line left: how many bytes it printed, or that it can't be read.
-#[derive(Clone, Copy)]
-pub enum Outcome {
-    Printed(usize),
-    Unreadable,
-}
-
-// The first line of an input: how many bytes it has, and how many with its end; or that it is not ready.
-#[derive(Clone, Copy)]
-enum Next {
-    Line(usize, usize),
-    NotYet,
+struct Cut {
+    bytes: usize,
+    size: usize,
 }
 
 // How far an input was carried out: bytes read, bytes written, and whether a line couldn't be read.
@@ -45,43 +32,41 @@ pub struct Progress {
     pub ended: bool,
 }
 
-fn asked_by(command: Command) -> Asked
-    ensures { result ≡ asked_by command }
+#[tactic(auto, unfolding(crate::specs::Asked::call_by))]
+fn call_by(command: Command) -> Call
+    ensures { result ≡ call_by command }
 {
     match command {
-        Command::Record(loader, name, class) => Asked::Calls(
-            Call::Record(
-                u32::from(loader),
-                u32::from(name),
-                u32::from(class),
-            ),
-            0,
-        ),
-        Command::Define(loader, size) => {
-            Asked::Calls(Call::Define(u32::from(loader)), size as usize)
+        Command::Record(loader, name, class) => {
+            Call::Record(u32::from(loader), u32::from(name), u32::from(class))
         }
-        Command::Start(task, loader, name, method, value) => Asked::Calls(
-            Call::Start(
-                u32::from(task),
-                u32::from(loader),
-                name,
-                method,
-                value,
-            ),
-            0,
-        ),
-        Command::Step => Asked::Calls(Call::Step, 0),
-        Command::Drop(task) => Asked::Calls(Call::Drop(u32::from(task)), 0),
-        Command::Unreadable => Asked::Nothing,
+        Command::Define(loader, _) => Call::Define(u32::from(loader)),
+        Command::Start(task, loader, name, method, value) => {
+            Call::Start(u32::from(task), u32::from(loader), name, method, value)
+        }
+        Command::Step => Call::Step,
+        Command::Drop(task) => Call::Drop(u32::from(task)),
     }
 }
 
-// The call that a line asks for, with its file at the table's front.
-fn read(line: &[u8], file: &mut [u8]) -> Asked
+// How many bytes a command's file has; only a define has one.
+#[tactic(auto, unfolding(crate::specs::Asked::file_size))]
+fn file_size(command: Command) -> usize
+    ensures { result ≡ file_size command }
+{
+    if let Command::Define(_, size) = command {
+        size as usize
+    } else {
+        0
+    }
+}
+
+// The command that a line asks for, with its file at the table's front.
+fn read(line: &[u8], file: &mut [u8]) -> Option<Command>
     requires { 32768 ≤ length file.old }
     ensures { Heard (read_line line.now) result file.new }
 {
-    asked_by(script::read_line(line, file))
+    script::read_line(line, file)
 }
 
 // The call is made and its answer printed at the output's front.
@@ -98,20 +83,19 @@ fn answer(
     file: &[u8],
     letter: u8,
     out: &mut [u8],
-) -> Outcome
-    ensures { left result (tables counts.new classes.new kept.new cache.new ties.new subtypes.new objects.new frames.new) out.new ≡ printed_on out.old (turned letter (tables counts.old classes.old kept.old cache.old ties.old subtypes.old objects.old frames.old) (perform (call_of call file.now) (tables counts.old classes.old kept.old cache.old ties.old subtypes.old objects.old frames.old))) }
+) -> usize
+    ensures { left (Some result) (tables counts.new classes.new kept.new cache.new ties.new subtypes.new objects.new frames.new) out.new ≡ printed_on out.old (turned letter (tables counts.old classes.old kept.old cache.old ties.old subtypes.old objects.old frames.old) (perform (call_of call file.now) (tables counts.old classes.old kept.old cache.old ties.old subtypes.old objects.old frames.old))) }
 {
     let turn = tasks::turn(counts);
     let reply = calls::perform(
         counts, classes, kept, cache, ties, subtypes, objects, frames, call, file,
     );
     let d = script::details_of(turn, reply);
-    let n = script::print_line(out, letter, d.refusal, d.one, d.two, d.three);
-    Outcome::Printed(n)
+    script::print_line(out, letter, d.refusal, d.one, d.two, d.three)
 }
 
-// One line of a script: its call is made and its answer printed at the output's front, as much of it as there is room for. A line that
-// can't be read changes nothing.
+// One line of a script: its call is made and its answer printed at the output's front, as much of it as there is room for. Says how many
+// bytes that are. A line that can't be read changes nothing.
 pub fn carry_out(
     counts: &mut [u16],
     classes: &mut [u16],
@@ -123,14 +107,12 @@ pub fn carry_out(
     frames: &mut [u32],
     line: &[u8],
     out: &mut [u8],
-) -> Outcome
+) -> Option<usize>
     ensures { left result (tables counts.new classes.new kept.new cache.new ties.new subtypes.new objects.new frames.new) out.new ≡ carried_on (tables counts.old classes.old kept.old cache.old ties.old subtypes.old objects.old frames.old) out.old (carry_out line.now (tables counts.old classes.old kept.old cache.old ties.old subtypes.old objects.old frames.old)) }
 {
     let mut file = [0u8; 32768];
-    let Asked::Calls(call, size) = read(line, &mut file) else {
-        return Outcome::Unreadable;
-    };
-    answer(
+    let command = read(line, &mut file)?;
+    let printed = answer(
         counts,
         classes,
         kept,
@@ -139,46 +121,47 @@ pub fn carry_out(
         subtypes,
         objects,
         frames,
-        call,
-        &file[..size],
+        call_by(command),
+        &file[..file_size(command)],
         cells::at(line, 0),
         out,
-    )
+    );
+    Some(printed)
 }
 
 // How many bytes the first line has: those before the first byte 10, or all.
 fn line_length(s: &[u8]) -> usize
     ensures { result ≡ line_length s.now }
 {
-    let mut i = 0;
-    while i < s.len() {
-        if s[i] == 10 {
+    for (i, b) in s.iter().enumerate() {
+        if *b == b'\n' {
             return i;
         }
-        i += 1;
     }
-    i
+    s.len()
+}
+
+// Whether n bytes with no end are a line: they are too many to be read whatever follows, or nothing follows them.
+#[tactic(auto, unfolding(crate::specs::Ready::alone))]
+fn is_alone(n: usize, last: bool) -> bool
+    ensures { result ≡ alone last n }
+{
+    65536 < n || last && 0 < n
 }
 
 // The first line, if it is ready: it has an end, or is too long whatever follows, or nothing follows the input.
-fn next_line(input: &[u8], last: bool) -> Next
-    ensures { result ≡ next_of (first_line last input.now) }
+fn next_line(input: &[u8], last: bool) -> Option<Cut>
+    ensures { result ≡ optional (first_line last input.now) }
 {
     let n = input.len();
     let bytes = line_length(input);
     if bytes < n {
-        return Next::Line(bytes, bytes + 1);
+        return Some(Cut {
+            bytes,
+            size: bytes + 1,
+        });
     }
-    if 65536 < n {
-        return Next::Line(n, n);
-    }
-    if !last {
-        return Next::NotYet;
-    }
-    if n == 0 {
-        return Next::NotYet;
-    }
-    Next::Line(n, n)
+    is_alone(n, last).then_some(Cut { bytes: n, size: n })
 }
 
 // The lines of an input that are ready, carried out from its front while the output has room for a line. `last` says that nothing follows
@@ -201,15 +184,11 @@ pub fn carry_lines(
     let mut read = 0;
     let mut written = 0;
     while 64 <= out.len() - written {
-        let Next::Line(bytes, size) = next_line(&input[read..], last) else {
-            return Progress {
-                read,
-                written,
-                ended: false,
-            };
+        let Some(cut) = next_line(&input[read..], last) else {
+            break;
         };
-        let end = read + bytes;
-        let Outcome::Printed(n) = carry_out(
+        let end = read + cut.bytes;
+        let Some(printed) = carry_out(
             counts,
             classes,
             kept,
@@ -227,8 +206,8 @@ pub fn carry_lines(
                 ended: true,
             };
         };
-        read += size;
-        written += n;
+        read += cut.size;
+        written += printed;
     }
     Progress {
         read,
@@ -241,11 +220,8 @@ pub fn carry_lines(
 pub fn keep_rest(window: &mut [u8], from: usize, to: usize)
     ensures { window.new ≡ moved from to window.old }
 {
-    let size = window.len();
-    let end = if to < size { to } else { size };
-    let mut i = from;
-    while i < end {
+    let end = to.min(window.len());
+    for i in from..end {
         window[i - from] = window[i];
-        i += 1;
     }
 }

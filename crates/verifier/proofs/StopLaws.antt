@@ -12,7 +12,7 @@ use borrow.Author.Tests.{le-leb, lt-leb}
 use Rattle.definition.specs.declared.Signature.{Signature}
 use Rattle.definition.specs.Instructions.{Decoded, decode, pick}
 use Rattle.definition.specs.Classes.{Map, Method}
-use Rattle.definition.specs.Lists.{any, is_none, to_list}
+use Rattle.definition.specs.Lists.{any, is_none, is_some, to_list}
 use Rattle.definition.specs.Verifier.{TypeState, map_at, maps_past, target, goes_on, unmapped_from}
 use Rattle.std.specs.Prelude as M
 use Rattle.cells.specs.Optional.{optional}
@@ -99,6 +99,11 @@ module _ (version own : ℕ) (g : Signature) (code : List ℕ) (maps : List Map)
   unfolding onward
   entry-stop h = sym (entered ∙ rw h refl)
 
+there-same : {A : Type 0} (o : Option A) → M.is_some (optional o) ≡ is_some o
+unfolding is_some
+there-same none = refl
+there-same (some x) = refl
+
 -- The test for a map that is lacking
 
 module _ (version : ℕ) (code : List ℕ) (maps : List Map) (p : ℕ) (wants : Bool) where
@@ -133,35 +138,35 @@ module _ (version : ℕ) (code : List ℕ) (maps : List Map) where
   lack-late h = rw (lacks_at, le-leb 2 version h) refl
 
   -- a map is lacking somewhere exactly where the code is unmapped
-  lacks-any : (given k p : ℕ) (wants : Bool) → M.is_some (optional (lacks_from version code maps k p wants)) ≡ unmapped_from version code maps given k p wants
-  unfolding lacks_from unmapped_from
+  pub lacks-any : (given k p : ℕ) (wants : Bool) → is_some (lacks_from version code maps k p wants) ≡ unmapped_from version code maps given k p wants
+  unfolding lacks_from unmapped_from is_some
   lacks-any given zero p wants = refl
   lacks-any given (suc k) p wants = go (decode version code p) (λ q w. lacks-any given k q w)
     where
-      go : (d : Option Decoded) → ((q : ℕ) (w : Bool) → M.is_some (optional (lacks_from version code maps k q w)) ≡ unmapped_from version code maps given k q w)
-          → M.is_some (optional (elim d as (λ _. Option ℕ) [
+      go : (d : Option Decoded) → ((q : ℕ) (w : Bool) → is_some (lacks_from version code maps k q w) ≡ unmapped_from version code maps given k q w)
+          → is_some {A = ℕ} (elim d as (λ _. Option ℕ) [
             | none ↦ none
             | some i ↦ elim ((wants && is_none (map_at maps p)) || any (λ q. is_none (map_at maps q)) (to_list (target i.instruction))) as (λ _. Option ℕ) [
               | true ↦ some p
               | false ↦ lacks_from version code maps k (p + i.size) (not (goes_on i.instruction))
             ]
-          ])) ≡ (elim d as (λ _. Bool) [
+          ]) ≡ (elim d as (λ _. Bool) [
             | none ↦ false
             | some i ↦ (wants && is_none (map_at maps p)) || any (λ q. is_none (map_at maps q)) (to_list (target i.instruction)) || unmapped_from version code maps given k (p + i.size) (not (goes_on i.instruction))
           ])
       go none h = refl
       go (some i) h = two (wants && is_none (map_at maps p)) (any (λ q. is_none (map_at maps q)) (to_list (target i.instruction))) _ _ (h (p + i.size) (not (goes_on i.instruction)))
         where
-          two : (a b : Bool) (o : Option ℕ) (c : Bool) → M.is_some (optional o) ≡ c → M.is_some (optional (elim (a || b) as (λ _. Option ℕ) [ true ↦ some p | false ↦ o ])) ≡ (a || b || c)
+          two : (a b : Bool) (o : Option ℕ) (c : Bool) → is_some o ≡ c → is_some {A = ℕ} (elim (a || b) as (λ _. Option ℕ) [ true ↦ some p | false ↦ o ]) ≡ (a || b || c)
           two true b o c e = refl
           two false true o c e = refl
           two false false o c e = e
 
   pub lacks-unmapped : (given : ℕ) → M.is_some (optional (lacks_at version code maps)) ≡ (leb 2 version && unmapped_from version code maps given (length code) 0 false)
-  unfolding lacks_at
-  lacks-unmapped given = go (leb 2 version)
+  unfolding lacks_at is_some
+  lacks-unmapped given = there-same (lacks_at version code maps) ∙ go (leb 2 version)
     where
-      go : (b : Bool) → M.is_some (optional (elim b as (λ _. Option ℕ) [ true ↦ lacks_from version code maps (length code) 0 false | false ↦ none ]))
+      go : (b : Bool) → is_some {A = ℕ} (elim b as (λ _. Option ℕ) [ true ↦ lacks_from version code maps (length code) 0 false | false ↦ none ])
           ≡ (b && unmapped_from version code maps given (length code) 0 false)
       go true = lacks-any given (length code) 0 false
       go false = refl

@@ -15,7 +15,8 @@ use cells::arguments::{argument_at, argument_count};
 use definition::numbers::{NAME_OBJECT, SHORT_RANGE};
 use definition::{Arguments, Condition, Instruction, Kind, Operator, Signature};
 
-// How a type meets what is demanded: not at all, as it stands, or under the note 'low below high'.
+// How a type meets what is demanded: not at all, as it stands, or under the note 'low below high'. These are three answers, which an Option of an Option
+// would name less plainly.
 #[derive(Clone, Copy)]
 pub enum Meeting {
     Unmet,

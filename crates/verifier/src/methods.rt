@@ -78,6 +78,7 @@ fn walk(
     let mut near = count;
     let mut i: u8 = 0;
     let mut place: u32 = 1;
+    // A run of quiet turns takes several of the turns that are left, so they aren't counted one by one.
     while 0 < left {
         let run = quiet_run(version, code, maps, places, res, types, left, p, i, place);
         let Some(ahead) = pass(maps, run.map, run.place, run.point) else {

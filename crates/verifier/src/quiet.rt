@@ -146,6 +146,7 @@ pub(crate) fn quiet_run(
     let mut point = from;
     let mut i = map;
     let mut place = at;
+    // The run may end early, and the turns that are left are part of what it answers.
     while 1 < left {
         let Some(ahead) = pass(maps, i, place, point) else {
             break;

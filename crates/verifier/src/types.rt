@@ -13,7 +13,7 @@ pub(crate) const OPERANDS: usize = OPERAND_LIMIT as usize;
 
 pub(crate) const LOCALS: usize = LOCAL_COUNT as usize;
 
-// A type is a number. A class name is itself.
+// A type is a number, as the cells of a state are. A class name is itself.
 pub(crate) const INT: u32 = SHORT_RANGE;
 
 pub(crate) const NULL: u32 = SHORT_RANGE + 1;

@@ -3,4 +3,4 @@ use Rattle.std.proofs.Common.{◌≤◌, length}
 use Rattle.boxscript.proofs.talk.Given as goal
 
 abbrev pub invariant-loop : goal.invariant-loop
-invariant-loop g l = l.held ≤ length l.window
+invariant-loop g l = l.state.held ≤ length l.window

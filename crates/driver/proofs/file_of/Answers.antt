@@ -4,7 +4,6 @@ use mathlib.Core.Path.{◌≡◌, sym}
 use native.Mathlib.Omega.{arith}
 use Rattle.classfile.specs.Searches.{part-there, part-past}
 use Rattle.driver.specs.Encoded.{cell_in, file_in}
-use borrow.Author.Rules.{rules}
 use Rattle.driver.proofs.file_of.Goals as goal
 
 size : (a b : ℕ) → a + b - a ≡ b
@@ -13,9 +12,9 @@ size a b = omega arith
 pub returns-then-end-files : goal.returns-then-end-files
 unfolding cell_in file_in
 returns-then-end-files c =
-    rw (c.wide32-start.ensures.0, c.wide32.ensures.0, size _ _) (sym (part-there _ _ _ (rw (c.wide32-start.ensures.0, c.wide32.ensures.0) at c.if-end-files.true)))
+    rw (size _ _) (sym (part-there _ _ _ c.if-end-files.true))
 
 pub returns-else-end-files : goal.returns-else-end-files
 unfolding cell_in file_in
 returns-else-end-files c =
-    sym (part-past _ _ _ (rw (c.wide32-start.ensures.0, c.wide32.ensures.0) at c.if-end-files.false))
+    sym (part-past _ _ _ c.if-end-files.false)

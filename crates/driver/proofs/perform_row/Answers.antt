@@ -1,12 +1,11 @@
 -- The row is read, and its call performed and answered.
 use native.Mathlib.Omega.{arith}
 use Rattle.driver.specs.Laws.{row-unread, row-performed}
-use borrow.Author.Rules.{rules}
 use Rattle.driver.proofs.perform_row.Goals as goal
 
 pub returns-in_default : goal.returns-in_default
 returns-in_default c =
-    row-unread _ _ _ c.read_row-row.ensures _ _ _ c.in_default.is
+    row-unread _ _ _ c.read_row.ensures _ _ _ c.in_default.is
 
 pub write_answer-requires : goal.write_answer-requires
 write_answer-requires c =
@@ -14,4 +13,4 @@ write_answer-requires c =
 
 pub returns : goal.returns
 returns c =
-    row-performed _ _ _ c.read_row-row.ensures _ _ _ _ c.in-Readable.is _ _ _ (rw c.file_of-file.ensures at c.perform-reply.ensures) c.write_answer.ensures
+    row-performed _ _ _ c.read_row.ensures _ _ _ _ c.in-Some.is _ _ _ (rw c.file_of-file.ensures at c.perform-reply.ensures) c.write_answer.ensures

@@ -4,7 +4,6 @@ use Rattle.definition.specs.Instructions.{pick}
 use Rattle.calls.specs.Made.{call_of}
 use Rattle.driver.specs.Encoded.{kind_in, cell_in, call_in}
 use Rattle.driver.specs.Laws.{call_made}
-use borrow.Author.Rules.{rules}
 use Rattle.driver.proofs.read_row.Goals as goal
 
 pub returns-in-0 : goal.returns-in-0
@@ -12,9 +11,9 @@ unfolding call_made call_of call_in kind_in pick
 returns-in-0 c = rw c.in-0.is
 
 pub returns-in-1 : goal.returns-in-1
-unfolding call_in kind_in cell_in pick
+unfolding call_in kind_in cell_in pick call_of
 returns-in-1 c =
-    rw c.in-1.is (c.read_define.ensures _)
+    rw c.in-1.is (c.with_file.ensures _)
 
 pub returns-in-2 : goal.returns-in-2
 unfolding call_made call_of call_in kind_in cell_in pick
@@ -43,9 +42,9 @@ unfolding call_made call_of call_in kind_in pick
 returns-in-7 c = rw c.in-7.is
 
 pub returns-in-8 : goal.returns-in-8
-unfolding call_in kind_in cell_in pick
+unfolding call_in kind_in cell_in pick call_of
 returns-in-8 c =
-    rw c.in-8.is (c.read_try.ensures _)
+    rw c.in-8.is (c.with_file-in-8.ensures _)
 
 pub returns-in-9 : goal.returns-in-9
 unfolding call_made call_of call_in kind_in cell_in pick

@@ -7,15 +7,6 @@ use Rattle.host.proofs.report_order.Goals as goal
 pub loop-i-init : goal.loop-i-init
 loop-i-init c = (writing_start _ _ _, refl)
 
-pub overflow_add-i : goal.overflow_add-i
-overflow_add-i c = omega (arith, c.loop-i-test.true)
-
-pub overflow_add-i-in-loop-i : goal.overflow_add-i-in-loop-i
-overflow_add-i-in-loop-i c = omega (arith, c.loop-i-test.true)
-
-pub loop-i-smaller : goal.loop-i-smaller
-loop-i-smaller c = omega (arith, c.loop-i-test.true)
-
 pub loop-i-preserved : goal.loop-i-preserved
 loop-i-preserved c = (writing_more _ _ _ _ _ _ _ _ c.loop-i.invariant.0 c.loop-i-test.true c.next_offer.ensures c.put.ensures, c.put.auto.t ∙ c.loop-i.invariant.1)
 

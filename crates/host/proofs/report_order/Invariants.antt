@@ -1,4 +1,4 @@
--- The loop: i cells are written.
+-- The first i cells of the order are written, and the digits that are left are those of the rest.
 use mathlib.Core.Path.{◌≡◌}
 use Prim.Native.Nat.{◌-◌}
 use lib.ListN.{length}
@@ -9,6 +9,3 @@ use Rattle.host.proofs.report_order.Given as goal
 abbrev pub invariant-loop-i : goal.invariant-loop-i
 invariant-loop-i l =
     Writing l.n l.order l.i l.rest l.initial.answer l.answer × (length l.answer ≡ length l.initial.answer)
-
-abbrev pub decreases-loop-i : goal.decreases-loop-i
-decreases-loop-i l = offer_limit - l.i

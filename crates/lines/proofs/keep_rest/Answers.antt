@@ -1,24 +1,14 @@
--- Byte by byte: those from one place up to place i are at the front.
-use Prim.Native.Nat.{◌-◌, ◌≤◌}
-use Rattle.lines.specs.Windows.{moved, moved_none, moved_more, moved-end, moved_same}
-use borrow.Author.Rules.{rules}
-use lib.ListN.{length, length-set}
-use mathlib.Core.Logic.{⊎_elim}
-use mathlib.Core.Path.{◌≡◌, refl, ◌∙◌}
+use mathlib.Core.Path.{◌∙◌}
 use native.Mathlib.Omega.{arith}
+use Rattle.lines.specs.Windows.{moved_none, moved_more, moved-min, moved_same}
 use Rattle.lines.proofs.keep_rest.Goals as goal
 
 pub loop-i-init : goal.loop-i-init
-loop-i-init c = (omega arith, omega arith, moved_none _ _, refl, elim c.if-to-size.branch [ goal.then-to-size w ↦ omega arith | goal.else-to-size w ↦ omega arith ])
+loop-i-init c = (omega arith, moved_none _ _, omega (arith, c.min-end.ensures))
 
 pub loop-i-preserved : goal.loop-i-preserved
-loop-i-preserved c =
-    (omega arith, omega arith, rw c.loop-i.invariant.2 (moved_more _ _ _ c.loop-i.invariant.0 (omega arith)), simp length-set c.loop-i.invariant.3, c.loop-i.invariant.4)
-
-pub shape_of-window : goal.shape_of-window
-shape_of-window c =
-    c.loop-i.invariant.3
+loop-i-preserved c = (omega arith, rw c.loop-i.invariant.1 (moved_more _ _ _ c.loop-i.auto.i (omega arith)), c.loop-i.invariant.2)
 
 pub returns : goal.returns
 returns c =
-    c.loop-i.invariant.2 ∙ moved_same c.args.from c.loop-i.i c.if-to-size.end c.args.window.now (omega arith) ∙ (elim c.if-to-size.branch [ goal.then-to-size w ↦ rw w.end-is | goal.else-to-size w ↦ rw w.end-is (moved-end _ _ _ w.if-to-size.false) ])
+    c.loop-i.invariant.1 ∙ moved_same c.args.from c.loop-i.i c.min-end.result c.args.window.now (omega arith) ∙ rw c.min-end.ensures (moved-min _ _ _)

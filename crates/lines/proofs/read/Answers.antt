@@ -1,8 +1,6 @@
--- The line's command is read, with its file, then taken as a call.
+-- The line's command is read, with its file.
 use Rattle.lines.specs.Asked.{heard}
-use borrow.Author.Rules.{rules}
 use Rattle.lines.proofs.read.Goals as goal
 
 pub returns : goal.returns
-returns c =
-    rw c.asked_by.ensures (heard _ _ _ _ c.read_line.ensures c.requires c.read_line.auto.file)
+returns c = heard _ _ _ _ c.read_line.ensures c.requires c.read_line.auto.file

@@ -1,6 +1,5 @@
 -- The fields are searched from the first on. Before field i is compared, the search from field i on finds what the whole search finds.
 use mathlib.Core.Path.{sym, ap, ◌∙◌}
-use native.Mathlib.Omega.{arith}
 use Rattle.classfile.specs.Lists.{find-here, find-later, find-end, find-start}
 use Rattle.cells.specs.Optional.{optional}
 use Rattle.classfile.specs.Reading.{quick_fields}

@@ -1,5 +1,4 @@
 -- Before map i is passed, its place is known.
-use mathlib.Core.Path.{◌≡◌, ap, ◌∙◌}
 use native.Mathlib.Omega.{arith}
 use Rattle.classfile.proofs.Laws.{map_next}
 use Rattle.classfile.specs.Reading.{map_place}

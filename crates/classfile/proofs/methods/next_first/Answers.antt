@@ -1,5 +1,5 @@
 -- Eight bytes before the code, the last two of them its length, and no maps after it.
-use mathlib.Core.Path.{◌≡◌, ap, ◌∙◌}
+use mathlib.Core.Path.{◌≡◌}
 use Prim.Native.Nat.{◌+◌}
 use native.Mathlib.Omega.{arith}
 use Rattle.definition.specs.Instructions.{short_at}

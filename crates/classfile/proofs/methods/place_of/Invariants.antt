@@ -1,4 +1,3 @@
-use Prim.Native.Nat.{◌-◌, ◌≤◌}
 use Rattle.classfile.specs.Reading.{Placed}
 use Rattle.classfile.proofs.methods.place_of.Given as goal
 

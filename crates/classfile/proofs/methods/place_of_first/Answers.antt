@@ -1,6 +1,5 @@
 -- Before record i is passed, its place is known.
-use native.Mathlib.Omega.{arith}
-use Rattle.classfile.proofs.Laws.{placed-next, placed_at}
+use Rattle.classfile.proofs.Laws.{placed-next}
 use Rattle.classfile.proofs.methods.place_of_first.Goals as goal
 
 pub loop-i-preserved : goal.loop-i-preserved

@@ -1,8 +1,6 @@
 -- Before method j is tested, its place is known, and the test of the methods from j on says what the test of all says.
-use mathlib.Core.Path.{◌≡◌, sym, ap, ◌∙◌}
+use mathlib.Core.Path.{◌≡◌, sym, ◌∙◌}
 use native.Mathlib.Omega.{arith}
-use Rattle.definition.specs.Lists.{every}
-use Rattle.layout.specs.Places.{rows_start}
 use Rattle.classfile.specs.Lists.{every_more, every-not, every-end, every_first, every-fails, every-last}
 use Rattle.classfile.proofs.Laws.{placed-next}
 use Rattle.classfile.specs.Reading.{method_count}

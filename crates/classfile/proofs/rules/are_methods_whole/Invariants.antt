@@ -1,4 +1,4 @@
-use Prim.Native.Nat.{◌-◌, ◌≤◌}
+use Prim.Native.Nat.{◌-◌}
 use mathlib.Core.Path.{◌≡◌}
 use Rattle.definition.specs.Lists.{every, rows}
 use Rattle.classfile.specs.Reading.{method_count, Placed}

@@ -1,6 +1,5 @@
 -- Before method j is compared with the later ones, its place is known, and two of the methods from j on are alike exactly if two of all are.
 use mathlib.Core.Path.{sym, ap, ◌∙◌}
-use native.Mathlib.Omega.{arith}
 use Rattle.definition.specs.Lists.{doubled}
 use Rattle.definition.specs.File.{same_method}
 use Rattle.layout.specs.Places.{rows_start}

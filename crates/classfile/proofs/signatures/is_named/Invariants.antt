@@ -1,5 +1,4 @@
 use mathlib.Core.Path.{◌≡◌}
-use Prim.Native.Nat.{◌-◌}
 use lib.ListN.{drop}
 use lib.Dec.{leb}
 use Rattle.definition.specs.Lists.{all}

@@ -1,10 +1,7 @@
 -- No place that was passed is marked.
-use Prim.Native.Nat.{ℕ, ◌-◌, ◌<◌, ◌≤◌}
+use Prim.Native.Nat.{ℕ, ◌<◌, ◌≤◌}
 use Rattle.constraints.specs.Search.{Marked}
 use Rattle.constraints.proofs.pairs.next_followed.Given as goal
 
 abbrev pub invariant-loop-b : goal.invariant-loop-b
-invariant-loop-b l = (l.from ≤ l.b) × (l.b ≤ 1280) × ((p : ℕ) → p < l.b → l.from ≤ p → Marked l.stamp l.marks p → ⊥)
-
-abbrev pub decreases-loop-b : goal.decreases-loop-b
-decreases-loop-b l = l.end - l.b
+invariant-loop-b l = (p : ℕ) → p < l.b → l.from ≤ p → Marked l.stamp l.marks p → ⊥

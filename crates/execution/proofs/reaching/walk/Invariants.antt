@@ -9,7 +9,4 @@ use Rattle.execution.proofs.reaching.walk.Given as goal
 
 abbrev pub invariant-loop-k : goal.invariant-loop-k
 invariant-loop-k l =
-    ((v : ℕ) → Numbers v l.numbers → Walked l.tags l.facts l.counts l.key v l.code l.initial.row l.initial.objects l.k l.row l.objects) × At l.row l.p l.d × (l.k ≤ l.most) × (length l.objects ≡ length l.initial.objects)
-
-abbrev pub decreases-loop-k : goal.decreases-loop-k
-decreases-loop-k l = l.most - l.k
+    ((v : ℕ) → Numbers v l.numbers → Walked l.tags l.facts l.counts l.key v l.code l.initial.row l.initial.objects l.k l.row l.objects) × At l.row l.p l.d × (length l.objects ≡ length l.initial.objects)

@@ -1,6 +1,6 @@
 -- With fewer than two bytes behind the opcode the row stays; else they are the target.
 use Rattle.definition.specs.declared.Instruction.TheVariants.{Branch}
-use Rattle.execution.specs.Plain.{stayed, stepping, decode-branch}
+use Rattle.execution.specs.Plain.{stepping, decode-branch}
 use native.Mathlib.Omega.{arith}
 use Rattle.execution.proofs.walking.branch.Goals as goal
 

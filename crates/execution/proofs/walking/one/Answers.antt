@@ -1,7 +1,6 @@
 -- Each number has the function of its opcode; any other leaves the row.
 use Rattle.definition.specs.Instructions.{pick}
 use Rattle.execution.specs.Opcodes.{opcode_numbered}
-use Rattle.execution.specs.Plain.{stayed}
 use Rattle.std.proofs.Common.{ap, ◌∙◌}
 use Rattle.execution.proofs.walking.one.Goals as goal
 

@@ -1,7 +1,7 @@
 -- With fewer than two bytes behind the opcode the row stays; else they are the int that is pushed.
 use Rattle.definition.specs.Instructions.{extend}
 use Rattle.definition.specs.declared.Instruction.TheVariants.{Sipush}
-use Rattle.execution.specs.Plain.{stayed, stepping, decode-sipush}
+use Rattle.execution.specs.Plain.{stepping, decode-sipush}
 use Rattle.std.proofs.Common.{ap, ◌∙◌}
 use native.Mathlib.Omega.{arith}
 use Rattle.execution.proofs.walking.sipush.Goals as goal

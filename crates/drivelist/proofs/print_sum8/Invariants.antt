@@ -1,6 +1,0 @@
--- Each cell is added.
-use Rattle.std.proofs.Common.{length, ◌-◌}
-use Rattle.drivelist.proofs.print_sum8.Given as goal
-
-abbrev pub decreases-loop-i : goal.decreases-loop-i
-decreases-loop-i g l = length l.table - l.i
