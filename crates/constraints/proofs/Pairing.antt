@@ -8,7 +8,6 @@ use mathlib.Core.List.{List, []}
 use mathlib.Core.Logic.{◌⊎◌, inl, inr}
 use Prim.Native.Nat.{ℕ, zero, suc, ◌+◌, ◌<◌, ◌≤◌}
 use native.Mathlib.Omega.{arith}
-use native.Mathlib.Numerals.{add-one}
 use lib.ListN.{get_or}
 use lib.Dec.{eqb, ltb}
 use borrow.Author.Tests.{eqb-true, eqb-false, eq-eqb, ne_eqb, ltb-true, ltb-false}
@@ -24,7 +23,7 @@ use Rattle.constraints.specs.Search.{start_of, links_of, leads_on, Led, Link, Ma
 use Rattle.constraints.specs.Upward.{is_above}
 use Rattle.std.specs.Prelude as P
 use Rattle.constraints.specs.Pairs.{Found, pair, reach, Meets, ToMeet, pair_is, pair_on, agree_on, out_marked, in_marked, PairFine, NextMet, Judged, fine, tied, out, into, Fresh, Finding, agree, apart}
-use Rattle.constraints.specs.Looking.{Span, request_at, lead_of, NextTurn, Links, Tables, LookedFirst, LookedTies, LookedAhead, Looked, PairIn, all_fine, breaks}
+use Rattle.constraints.specs.Looking.{Span, request_at, lead_of, NextTurn, Links, Tables, LookedFirst, LookedTies, LookedAhead, Looked}
 use Rattle.constraints.proofs.Rows.{Order, less, equal, more, order, in_rows, rows_in}
 use Rattle.constraints.proofs.Searching.{led-holds}
 use Rattle.constraints.proofs.Looks.{tables_more}
@@ -152,22 +151,6 @@ right-on F {b = b} before here next p h l k = go (order p b)
     go (less q) = before p q l k
     go (equal q) = rw q here
     go (more q) = absurd (next.none p h (omega arith) k)
-
--- what a turn's look has found
-
-module _ {sup : ℕ → Option ℕ} {groups classes outs ins aboves : List ℕ} {turn a : ℕ} {span : Span} where
-  pub pair-breaks : {b : ℕ} {r : Found} → b < span.end → Judged sup groups classes outs ins aboves (turn + 1) (lead_of turn groups a b) b r → P.is_some r ≡ true
-      → PairIn sup groups classes outs ins aboves turn a span r
-  pair-breaks {b} {r} h j q = go r j q
-    where
-      go : (o : Found) → Judged sup groups classes outs ins aboves (turn + 1) (lead_of turn groups a b) b o → P.is_some o ≡ true → PairIn sup groups classes outs ins aboves turn a span o
-      go P.None k e = absurd (false≢true e)
-      go (P.Some p) k e = breaks b h p k
-
-  pub fine-in : {r : Found} → PairIn sup groups classes outs ins aboves turn a span r → P.is_some r ≡ false
-      → (p : ℕ) → p < span.end → span.from ≤ p → ToMeet span.who groups outs (turn + 1) p → PairFine sup groups classes outs ins aboves (turn + 1) (lead_of turn groups a p) p
-  fine-in (all_fine f) q = f
-  fine-in (breaks b h p j) q = absurd (false≢true (sym q))
 
 module _ (sup : ℕ → Option ℕ) (falls : Falls sup) (groups classes : List ℕ) (n noted : ℕ) where
   abbrev class : ℕ → ℕ
@@ -404,12 +387,6 @@ module _ (sup : ℕ → Option ℕ) (falls : Falls sup) (groups classes : List �
       apart-any {turn = zero} e fits f looked h j q = apart-turn looked (fits (λ z. omega arith)) (inl e) h j q
       apart-any {turn = suc zero} e fits f looked h j q = tied-apart (f (omega arith)) (omega (arith, looked.low)) j q
       apart-any {turn = suc (suc u)} e fits f looked h j q = apart-turn looked (fits (λ z. omega arith)) (inr (f (omega arith))) h j q
-
-      pub apart-in : {turn a : ℕ} {outs ins queue aboves : List ℕ} {span : Span} {r : Found} → a ≡ request_at turn new → ((turn ≡ 1 → ⊥) → a < n)
-          → (0 < turn → new < n → Fresh sup groups classes n noted new) → Looked sup groups classes n noted turn a outs ins queue aboves span
-          → PairIn sup groups classes outs ins aboves turn a span r → P.is_some r ≡ true → Finding sup groups classes n noted new r
-      apart-in e fits f looked (all_fine g) q = absurd (false≢true q)
-      apart-in {turn} e fits f looked (breaks b h p j) q = apart-any e fits f looked h (rw (add-one turn) at j) q
 
     -- All turns are over
     module _ (classed : (a : ℕ) → a < n → class (group a) ≡ class a) (all-passed : (a : ℕ) → a < n → Passed sup groups classes n noted a) where

@@ -1,14 +1,13 @@
 -- Whose turn it is to be looked at, and where what can break agreement with it is looked for. Turn 0 is the newcomer's, turn 1 that of
 -- ties, and then come those of the requests, two turns after their places; marks of a turn have its number and one.
 use Rattle.std.specs.Prelude.{◌≡◌, List, ◌⊎◌, ℕ, zero, suc, ◌+◌, ◌<◌, ◌≤◌, length, get_or}
-use Rattle.std.specs.Prelude as P
 use Rattle.std.proofs.Math.Option.{Option}
 use Rattle.definition.specs.Numbers.{byte_range}
 use Rattle.constraints.specs.Nodes.{place_limit}
 use Rattle.constraints.specs.Joining.{Joined}
 use Rattle.constraints.specs.Search.{start_of, Led, Marked, Stamped, Searched}
 use Rattle.constraints.specs.Upward.{Raised}
-use Rattle.constraints.specs.Pairs.{Found, Pair, Everyone, Members, Followed, PairFine, ToMeet, Judged}
+use Rattle.constraints.specs.Pairs.{Everyone, Members, Followed, PairFine}
 pub use Rattle.constraints.specs.declared.looking.Span.{Span}
 
 -- Turns
@@ -95,11 +94,3 @@ pub record Looked (sup : ℕ → Option ℕ) (groups classes : List ℕ) (n note
   pub first : turn ≡ 0 → LookedFirst sup groups classes n noted a outs ins aboves span
   pub ties : turn ≡ 1 → LookedTies n span
   pub ahead : 1 < turn → get_or groups a 0 ≡ a → (noted ≡ 0) ⊎ LookedAhead groups n noted turn a outs span
-
--- What is found of what is looked at in a turn: nothing, and each pair is fine, or a pair with one of the places
-
-pub data PairIn (sup : ℕ → Option ℕ) (groups classes outs ins aboves : List ℕ) (turn a : ℕ) (span : Span) : Found → Type 0 where
-  all_fine : ((p : ℕ) → p < span.end → span.from ≤ p → ToMeet span.who groups outs (turn + 1) p → PairFine sup groups classes outs ins aboves (turn + 1) (lead_of turn groups a p) p)
-      → PairIn sup groups classes outs ins aboves turn a span P.None
-  breaks : (b : ℕ) → b < span.end → (p : Pair) → Judged sup groups classes outs ins aboves (turn + 1) (lead_of turn groups a b) b (P.Some p)
-      → PairIn sup groups classes outs ins aboves turn a span (P.Some p)

@@ -7,44 +7,15 @@ ghost use Rattle.constraints.specs.Nodes.{place_limit};
 ghost use Rattle.constraints.specs.Groups.{Rooted};
 ghost use Rattle.constraints.specs.Looking.{Links, Tables};
 ghost use Rattle.constraints.specs.Pairs.{Followed, Finding};
-ghost use Rattle.constraints.specs.Looking.{PairIn};
 
 use crate::grouping::group_places;
 use crate::joining::join;
-use crate::looking::{Span, beside, first_turn, look, next_turn, request_at};
+use crate::looking::{beside, first_turn, look, next_turn, request_at};
 use crate::numbering::{PLACE_LIMIT, at_most, list_classes, number_nodes, number_places};
 use crate::pairs::{Pair, next_met, pair_at};
 use cells::at;
 use definition::Check;
 use definition::numbers::{BYTE_RANGE, CACHE_LIMIT, ROW_CELLS};
-
-// The first pair that breaks agreement of those looked at in a turn.
-fn pair_in(
-    supers: &[u8],
-    groups: &[u16],
-    classes: &[u16],
-    outs: &[u16],
-    ins: &[u16],
-    aboves: &[u16],
-    turn: usize,
-    a: usize,
-    span: Span,
-) -> Option<Pair>
-    requires { (turn ≤ cache_limit + 1) × (span.end ≤ place_limit) × (span.who ≡ Followed → span.end ≤ length outs.now) }
-    ensures { PairIn (super_in supers.now) groups.now classes.now outs.now ins.now aboves.now turn a span result }
-{
-    let stamp = (turn + 1) as u16;
-    let mut next = next_met(groups, outs, stamp, span.who, span.from, span.end);
-    while let Some(b) = next {
-        let lead = beside(turn, groups, a, b);
-        let pair = pair_at(supers, groups, classes, outs, ins, aboves, stamp, lead, b);
-        if pair.is_some() {
-            return pair;
-        }
-        next = next_met(groups, outs, stamp, span.who, b + 1, span.end);
-    }
-    None
-}
 
 // A pair of cached requests that breaks agreement, if there is one, and one with the newcomer if there is one of those. The newcomer is looked at first,
 // beside all that chains out of it and into it reach; then tied requests; then each other request in turn beside what it leads to. The first pair that breaks agreement ends
@@ -66,19 +37,27 @@ fn find_pair(
     requires { (cached ≤ cache_limit) × (noted ≤ subtype_limit) × Rooted groups.now (cached + noted + noted) × Links groups.now cached noted heads.now nexts.now × Tables noted 0 outs.old ins.old queue.old aboves.old }
     ensures { Finding (super_in supers.now) groups.now classes.now cached noted newcomer result }
 {
+    let mut found = None;
     let mut turn = first_turn(cached, newcomer);
-    while turn <= cached + 1 {
+    'pairs: while turn <= cached + 1 {
         let a = request_at(turn, newcomer);
+        let stamp = (turn + 1) as u16;
         let span = look(
             supers, groups, classes, cached, noted, heads, nexts, turn, a, outs, ins, queue, aboves,
         );
-        let pair = pair_in(supers, groups, classes, outs, ins, aboves, turn, a, span);
-        if pair.is_some() {
-            return pair;
+        let mut next = next_met(groups, outs, stamp, span.who, span.from, span.end);
+        while let Some(b) = next {
+            let lead = beside(turn, groups, a, b);
+            let pair = pair_at(supers, groups, classes, outs, ins, aboves, stamp, lead, b);
+            if pair.is_some() {
+                found = pair;
+                break 'pairs;
+            }
+            next = next_met(groups, outs, stamp, span.who, b + 1, span.end);
         }
         turn = next_turn(heads, cached, noted, turn);
     }
-    None
+    found
 }
 
 // The same, where the links aren't joined yet. Without subtype constraints there are none, and no tables for them. What the tables `nexts` and `queue` hold before

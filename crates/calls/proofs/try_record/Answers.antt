@@ -1,5 +1,4 @@
 -- What a try with the list of its own answers is what the call does.
-use borrow.Author.Rules.{rules}
 use Rattle.unbroken.specs.Tried.{try-done}
 use Rattle.calls.specs.Made.{served}
 use Rattle.calls.proofs.try_record.Goals as goal

@@ -1,10 +1,8 @@
 -- Boot, and the list if it is accepted; what is then left is safe.
 use mathlib.Core.Path.{sym, ◌∙◌}
-use borrow.Author.Tests.{not-true, not-false}
 use Rattle.definition.specs.Calls.{perform}
 use Rattle.driver.specs.Laws.{drive-refused, drive-accepted}
 use Rattle.driver.specs.Safely.{drive-safe}
-use borrow.Author.Rules.{rules}
 use Rattle.driver.proofs.drive.Goals as goal
 
 pub returns-then-not-is_accepted : goal.returns-then-not-is_accepted

@@ -4,7 +4,6 @@ use mathlib.Core.Path.{◌≡◌, sym}
 use native.Mathlib.Omega.{arith}
 use Rattle.classfile.specs.Searches.{part-there, part-past}
 use Rattle.driver.specs.Encoded.{cell_in, file_in}
-use borrow.Author.Rules.{rules}
 use Rattle.driver.proofs.file_of.Goals as goal
 
 size : (a b : ℕ) → a + b - a ≡ b

@@ -1,7 +1,6 @@
 -- The row is read, and its call performed and answered.
 use native.Mathlib.Omega.{arith}
 use Rattle.driver.specs.Laws.{row-unread, row-performed}
-use borrow.Author.Rules.{rules}
 use Rattle.driver.proofs.perform_row.Goals as goal
 
 pub returns-in_default : goal.returns-in_default

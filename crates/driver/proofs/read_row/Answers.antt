@@ -4,7 +4,6 @@ use Rattle.definition.specs.Instructions.{pick}
 use Rattle.calls.specs.Made.{call_of}
 use Rattle.driver.specs.Encoded.{kind_in, cell_in, call_in}
 use Rattle.driver.specs.Laws.{call_made}
-use borrow.Author.Rules.{rules}
 use Rattle.driver.proofs.read_row.Goals as goal
 
 pub returns-in-0 : goal.returns-in-0

@@ -3,7 +3,6 @@ use borrow.Author.Tests.{le-leb, lt-leb}
 use Rattle.definition.specs.Instructions.{pick}
 use Rattle.calls.specs.Made.{call_of}
 use Rattle.driver.specs.Laws.{call_made}
-use borrow.Author.Rules.{rules}
 use Rattle.driver.proofs.read_start.Goals as goal
 
 pub returns-then-name-gt65535 : goal.returns-then-name-gt65535

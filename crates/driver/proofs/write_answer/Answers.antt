@@ -1,6 +1,5 @@
 -- Three cells, one after another.
 use Rattle.driver.specs.Driven.{put_reply}
-use borrow.Author.Rules.{rules}
 use Rattle.driver.proofs.write_answer.Goals as goal
 
 pub returns : goal.returns

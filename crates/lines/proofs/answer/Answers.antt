@@ -1,6 +1,5 @@
 -- The call is made; its answer's details are printed. Whose turn it is, is read before the call.
 use Rattle.lines.specs.Carried.{answered}
-use borrow.Author.Rules.{rules}
 use Rattle.lines.proofs.answer.Goals as goal
 
 pub returns : goal.returns

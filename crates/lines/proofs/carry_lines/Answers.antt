@@ -1,12 +1,7 @@
 -- Line by line: what the lines from place `read` on leave, with what was read and written before, is what the whole input leaves.
-use Prim.Native.Nat.{◌+◌, ◌-◌, ◌≤◌, ◌<◌}
-use Rattle.definition.specs.Tables.{tables}
-use Rattle.lines.specs.Scripts.{carry_lines}
-use Rattle.lines.specs.Told.{told_from, told_of, Reach, ready-reach, next-ready, told-begins, told-waits, told-full, told-ends, told-small, told-goes-on}
+use Rattle.lines.specs.Told.{ready-reach, next-ready, told-begins, told-waits, told-full, told-ends, told-small, told-goes-on}
 use Rattle.lines.specs.Windows.{part_length}
-use borrow.Author.Rules.{rules}
-use lib.ListN.{length, drop}
-use mathlib.Core.Path.{◌≡◌, refl, ◌∙◌}
+use mathlib.Core.Path.{◌∙◌}
 use native.Mathlib.Omega.{arith}
 use Rattle.lines.proofs.carry_lines.Goals as goal
 
