@@ -1,7 +1,7 @@
 -- An instruction that touches its frame alone, done on the frame's row.
 use Rattle.std.specs.Prelude.{◌≡◌, refl, Bool, List, length, set, leb}
 use Rattle.std.proofs.Math.Path.{sym, ap}
-use Rattle.std.proofs.Common.{◌∙◌, true≢false, arith, get_or-set_same, le-leb}
+use Rattle.std.proofs.Common.{◌∙◌, arith, get_or-set_same, le-leb}
 use Rattle.std.proofs.Math.Bool.{true, false}
 use Rattle.std.proofs.lemmas.Bool.{false≢true}
 use Rattle.std.proofs.Math.Option.{Option, none, some}
@@ -22,7 +22,6 @@ use Rattle.definition.specs.Machine.{Value, Objects, Frame, execute}
 use Rattle.definition.specs.Tables.{value_of, kind_of, bits_of, operand_at, put_operand, put_value, local_at, put_local, frame_of}
 use Rattle.layout.specs.Cells.{moved}
 use Rattle.layout.specs.Places.{rows-cong, stack-cong}
-use Rattle.frames.specs.declared.Cell.{Cell}
 use Rattle.instructions.specs.declared.Plan.{Plan}
 use Rattle.instructions.specs.declared.Plan.TheVariants.{Refuse, Keep, Jump, Above, Local, Give, Finish, Field, Enter, Make}
 use Rattle.instructions.specs.Plans.{decoded, meaning, FrameOnly}

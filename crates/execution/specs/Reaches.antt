@@ -1,6 +1,6 @@
 -- An instruction that touches its frame alone, or a field of an object whose slot is remembered, done on the frame's row and the objects; and a walk of such instructions.
 use Rattle.std.specs.Prelude.{◌≡◌, refl, true, false, List, ◌≢◌, ℕ, zero, suc, ◌+◌, ◌-◌, ◌*◌, ◌<◌, ◌≤◌, length, get_or}
-use Rattle.std.proofs.Common.{sym, ◌∙◌, true≢false, add-one}
+use Rattle.std.proofs.Common.{◌∙◌, add-one}
 use Rattle.std.proofs.Math.Option.{some}
 use native.Mathlib.Omega.{arith}
 use Rattle.definition.specs.declared.Instruction.TheVariants.{Getfield, Putfield}

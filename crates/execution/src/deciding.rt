@@ -52,9 +52,7 @@ fn act(
             top.loader,
             Arguments::NoArguments,
             of,
-            access::getfield(
-                base, objects, frames, top, class, name, of,
-            ),
+            access::getfield(base, objects, frames, top, class, name, of),
         ),
         Instruction::Putfield(class, name, of) => settle_access(
             base,
@@ -64,9 +62,7 @@ fn act(
             top.loader,
             Arguments::NoArguments,
             of,
-            access::putfield(
-                base, objects, frames, top, class, name, of,
-            ),
+            access::putfield(base, objects, frames, top, class, name, of),
         ),
         Instruction::Invokevirtual(class, s) => {
             let arguments = s.arguments;

@@ -56,13 +56,7 @@ fn slot_found(
     let j = base.slot_of(s, name, of)?;
     if j < FIELD_LIMIT
         && base.is_below(r, e)
-        && is_old(
-            base.counts,
-            ties,
-            base.loader_of(s),
-            loader,
-            of,
-        )
+        && is_old(base.counts, ties, base.loader_of(s), loader, of)
     {
         Some(j)
     } else {
@@ -151,12 +145,7 @@ fn place_of(
 }
 
 // The place of the instruction of the top frame of the task whose turn it is.
-fn place_at_hand(
-    base: &Base,
-    ties: &[u16],
-    objects: &[u32],
-    frames: &[u32],
-) -> Option<Place>
+fn place_at_hand(base: &Base, ties: &[u16], objects: &[u32], frames: &[u32]) -> Option<Place>
     ensures { (w : Place) → result ≡ Some w → Noted base.now.counts.now base.now.classes.now base.now.kept.now base.now.cache.now ties.now w.key w.point w.class w.fact }
 {
     let task = tasks::turn(base.counts);

@@ -111,6 +111,7 @@ fn reach(
     requires { (key < 512) × Inside code.now p × (d ≤ operand_limit) }
     ensures { Does (opcode_numbered number) tags.now facts.now counts.now key code.now row.old objects.old p d result row.new objects.new }
 {
+    // The numbers are those of the table of opcodes, by which a walk goes as fast as it does.
     match number {
         16 => getfield(tags, facts, counts, objects, row, code, key, p, d),
         17 => putfield(tags, facts, counts, objects, row, code, key, p, d),

@@ -81,6 +81,7 @@ fn steps(
     let mut last = Answer::Idle;
     let mut room = first_room(counts);
     let mut stop: u8 = 0;
+    // k goes on by a step and by the steps of a walk, so it isn't counted by a range.
     while k < n {
         let base = Base {
             counts,
@@ -104,15 +105,7 @@ fn steps(
             kept,
             cache,
         };
-        let more = go_ahead(
-            tags,
-            facts,
-            &base,
-            objects,
-            frames,
-            opcodes,
-            n - k,
-        );
+        let more = go_ahead(tags, facts, &base, objects, frames, opcodes, n - k);
         last = last_of(counts, more.steps, a);
         k += more.steps;
         stop = more.stop;

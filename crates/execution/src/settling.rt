@@ -27,12 +27,7 @@ use resolution::Base;
 
 // The check of the store with ties that are to be posted, tried on a copy of the ties, with the groups that they make. There is no newcomer: the row behind the last
 // isn't one.
-fn check_ties(
-    base: &Base,
-    ties: &[u16],
-    subtypes: &[u16],
-    posting: Option<Ties>,
-) -> Check
+fn check_ties(base: &Base, ties: &[u16], subtypes: &[u16], posting: Option<Ties>) -> Check
     requires { Counts base.now.counts.now × (length ties.now ≡ ties_length) × (get_or base.now.counts.now count_ties 0 + length (to_post posting) ≤ tie_limit) × All Between (rows (tie_at ties.now) (get_or base.now.counts.now count_ties 0) 0) × All Between (to_post posting) }
     ensures { Names (posted (world_in (quick_base base.now.counts.now base.now.classes.now base.now.kept.now base.now.cache.now) (tables base.now.counts.now base.now.classes.now base.now.kept.now base.now.cache.now ties.now subtypes.now [] [])) (to_post posting)) none result }
 {

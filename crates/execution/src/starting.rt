@@ -120,15 +120,7 @@ pub fn start(
         Err(refusal) => Reply::Denied(refusal),
         Ok(first) => {
             begin(
-                counts,
-                classes,
-                kept,
-                cache,
-                objects,
-                frames,
-                task as u8,
-                first,
-                value,
+                counts, classes, kept, cache, objects, frames, task as u8, first, value,
             );
             Reply::Accepted
         }

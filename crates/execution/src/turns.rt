@@ -68,9 +68,7 @@ pub(crate) fn step_unbroken(
         cache,
     };
     let top = top_frame(&base, frames, task, n - 1);
-    let r = choose(
-        &base, ties, subtypes, objects, frames, top, room,
-    );
+    let r = choose(&base, ties, subtypes, objects, frames, top, room);
     let before = post_ties(counts, ties, r.posting);
     let answer = carry_out(
         counts, classes, kept, cache, objects, frames, top, r.next, r.plan,

@@ -40,10 +40,7 @@ pub(crate) fn keep(row: &mut [u32], q: u32, d: u32) -> Option<Moved>
         return None;
     }
     frames::write_moved(row, 0, q, d);
-    Some(Moved {
-        point: q,
-        depth: d,
-    })
+    Some(Moved { point: q, depth: d })
 }
 
 // Operands stay, and the frame goes on, or jumps.
@@ -87,10 +84,7 @@ fn put_local(row: &mut [u32], q: u32, plan: Plan) -> Option<Moved>
     }
     frames::write_moved(row, 0, q, d);
     frames::write_local(row, 0, j, v);
-    Some(Moved {
-        point: q,
-        depth: d,
-    })
+    Some(Moved { point: q, depth: d })
 }
 
 // Instructions at point p, of a frame with d operands

@@ -1,4 +1,6 @@
 -- The questions before a load: each case of the answers.
+use Rattle.std.specs.Prelude as code
+use Rattle.std.specs.Prelude.{Some, None, Ok, Err}
 use mathlib.Core.Path.{◌≡◌, refl, sym, ap, ◌∙◌}
 use mathlib.Core.Bool.{Bool, true, false, not, ◌&&◌}
 use mathlib.Core.Option.{Option}
@@ -14,19 +16,17 @@ use Rattle.definition.specs.Requests.{at}
 use Rattle.definition.specs.Classes.{Entry, find}
 use Rattle.definition.specs.Tables.{entry_at}
 use Rattle.classfile.specs.Reading.{class_name, super_name, part_of}
-use Rattle.resolution.specs.declared.Found.{Found}
-use Rattle.resolution.specs.declared.Found.TheVariants.{At, Absent}
-use Rattle.resolution.specs.Quick.{found, found_at, found-absent}
+use Rattle.cells.specs.Optional.{optional, optional-none, optional-some}
 use Rattle.resolution.specs.Lookups.{name_in}
 use Rattle.searching.specs.Could.{could_keep, could_define, could_load}
 
-pub cached-yes : (o : Option ℕ) (f : Found) (n : ℕ) → f ≡ found o → f ≡ At n → true ≡ is_some o
+pub cached-yes : (o : Option ℕ) (f : code.Option ℕ) (n : ℕ) → f ≡ optional o → f ≡ Some n → true ≡ is_some o
 unfolding is_some
-cached-yes o f n e q = rw (found_at o n (sym e ∙ q)) refl
+cached-yes o f n e q = rw (optional-some o n (sym e ∙ q)) refl
 
-pub cached-no : (o : Option ℕ) (f : Found) → f ≡ found o → f ≡ Absent → false ≡ is_some o
+pub cached-no : (o : Option ℕ) (f : code.Option ℕ) → f ≡ optional o → f ≡ None → false ≡ is_some o
 unfolding is_some
-cached-no o f e q = rw (found-absent o (sym e ∙ q)) refl
+cached-no o f e q = rw (optional-none o (sym e ∙ q)) refl
 
 module _ (n : ℕ) (bs : List ℕ) where
   pub too_long : 4096 < length bs → false ≡ could_keep n bs

@@ -1,4 +1,5 @@
 -- Orders by rising length: with no offer used all are left, and the first length that has an order among those that are tried is the order's.
+use Rattle.std.specs.Prelude.{Some, None}
 use mathlib.Core.Path.{◌≡◌, refl, sym, ap, ◌∙◌}
 use mathlib.Core.Bool.{Bool, true, false}
 use mathlib.Core.Option.{Option, none, some, none-ne-some, some-injective}
@@ -19,10 +20,7 @@ use Rattle.definition.specs.Offers.{offers_in, loaded_at, except, first_some, or
 use Rattle.laws.specs.Options.{bind-some}
 use Rattle.laws.specs.Pruned.{pruned-same}
 use Rattle.searching.specs.Offered.{offers_of, is_for_at, offers-count}
-use Rattle.searching.specs.Ordering.{digits, ordered, shortest_of, left_from, left_of, gives_at, leaves_at, pruned, Searches}
-use Rattle.searching.specs.declared.Ordered.{Ordered}
-use Rattle.searching.specs.declared.Ordered.TheVariants.{Order, NoOrder}
-use Rattle.searching.specs.declared.Fewest.TheVariants.{Loads, NoLoads}
+use Rattle.searching.specs.Ordering.{Ordered, digits, ordered, shortest_of, left_from, left_of, gives_at, leaves_at, pruned, Searches}
 
 -- No offer is used
 
@@ -75,12 +73,12 @@ module _ (offers : List Load) (q : Request) where
   unfolding fewest
   none_left n left r = refl
 
-none-ordered : (o : Option (List ℕ)) → NoOrder ≡ ordered o → o ≡ none
+none-ordered : (o : Option (List ℕ)) → None ≡ ordered o → o ≡ none
 unfolding ordered
 none-ordered none h = refl
 none-ordered (some is) h = cc
 
-some-ordered : (o : Option (List ℕ)) (c : ℕ) → Order c ≡ ordered o → (is : List ℕ) × ((o ≡ some is) × (c ≡ digits is))
+some-ordered : (o : Option (List ℕ)) (c : ℕ) → Some c ≡ ordered o → (is : List ℕ) × ((o ≡ some is) × (c ≡ digits is))
 unfolding ordered
 some-ordered none c h = absurd (let z : ◌≡◌ {A = ℕ} 0 1 = cc in omega arith)
 some-ordered (some is) c h = (is, (refl, cc))
@@ -126,7 +124,7 @@ module _ (cells files : List ℕ) (q : Request) (m : ℕ) (t : Tables) where
     step = omega (arith, l)
 
     -- none has n loads
-    pub rising-on : r ≡ NoOrder → Rising cells files q m t u k (n + 1)
+    pub rising-on : r ≡ None → Rising cells files q m t u k (n + 1)
     rising-on p =
         let e : order_of offers q n left (view t) ≡ none = sym same ∙ none-ordered (pruned cells files q n left (view s)) (sym p ∙ x.answers) in
         record {
@@ -144,16 +142,16 @@ module _ (cells files : List ℕ) (q : Request) (m : ℕ) (t : Tables) where
         below j e false b d = let z : j ≡ n = omega (arith, d, ltb-false j n b) in ap (λ (y : ℕ). order_of offers q y left (view t)) z ∙ e
 
     -- one has
-    pub rising-found : (c : ℕ) → r ≡ Order c → Loads n c ≡ shortest_of (order offers q (view t))
+    pub rising-found : (c : ℕ) → r ≡ Some c → Some (record { loads = n; code = c }) ≡ shortest_of (order offers q (view t))
     unfolding shortest_of
     rising-found c p =
         let a = some-ordered (pruned cells files q n left (view s)) c (sym p ∙ x.answers) in
         let e : order_of offers q n left (view t) ≡ some a.0 = sym same ∙ a.1.0 in
         let o : order offers q (view t) ≡ some a.0 = sym w.longer ∙ (ap (λ (y : ℕ). fewest offers q y n left (view t)) step ∙ some_of offers q (suc k - (n + 1)) n left (view t) a.0 e) in
-        (λ i. Loads (sym (order-length offers q n left (view t) a.0 e) i) (a.1.1 i)) ∙ ap shortest_of (sym o)
+        (λ i. Some (record { loads = sym (order-length offers q n left (view t) a.0 e) i; code = a.1.1 i })) ∙ ap shortest_of (sym o)
 
   -- none is longer
-  pub rising-end : (s : Tables) (k n : ℕ) → Rising cells files q m t s k n → k < n → NoLoads ≡ shortest_of (order offers q (view t))
+  pub rising-end : (s : Tables) (k n : ℕ) → Rising cells files q m t s k n → k < n → None ≡ shortest_of (order offers q (view t))
   unfolding shortest_of
   rising-end s k n w l =
       let z : suc k - n ≡ 0 = omega (arith, l) in

@@ -1,4 +1,6 @@
 -- The search's tests, in order, and what it answers and leaves where none fails.
+use Rattle.std.specs.Prelude as code
+use Rattle.std.specs.Prelude.{Some, None, Ok, Err}
 use mathlib.Core.Path.{◌≡◌, refl, sym, ap, ◌∙◌}
 use mathlib.Core.Bool.{Bool, true, false, not, false≢true, ◌&&◌}
 use mathlib.Core.Option.{Option, none, some}
@@ -8,6 +10,7 @@ use native.Mathlib.Omega.{arith}
 use lib.ListN.{length, get_or}
 use lib.Dec.{eqb, leb, ltb}
 use borrow.Author.Tests.{eqb-true, eqb-false, lt-ltb, le-ltb, le-leb, lt-leb}
+use Rattle.definition.specs.declared.Refusal.{Refusal}
 use Rattle.definition.specs.declared.Refusal.TheVariants.{Word}
 use Rattle.definition.specs.Numbers.{count_cache, loader_limit, name_object}
 use Rattle.definition.specs.Lists.{rows, is_some}
@@ -17,25 +20,19 @@ use Rattle.definition.specs.Tables.{Tables, shaped, entry_at, view_over, view}
 use Rattle.definition.specs.Broken.{broken}
 use Rattle.definition.specs.Calls.{Load, Call, perform_all}
 use Rattle.definition.specs.Offers.{offers_in, order}
-use Rattle.definition.specs.Searching.{found, denied_search, searched, sought, search}
+use Rattle.definition.specs.Searching.{found, searched, sought, search}
 use Rattle.laws.specs.Orders.{order-works}
 use Rattle.layout.specs.Tests.{All, all_more}
 use Rattle.layout.specs.ReadBack.{shaped-true, true-shaped}
 use Rattle.layout.specs.Unbroken.{unbroken}
 use Rattle.unbroken.specs.Searched.{works-on, first-fails, second-fails, third}
 use Rattle.copying.specs.Copied.{copied_tables, filled}
-use Rattle.resolution.specs.declared.Found.{Found}
-use Rattle.resolution.specs.declared.Found.TheVariants.{At, Absent}
-use Rattle.resolution.specs.Quick.{found as found-is, found_at, found-absent}
+use Rattle.cells.specs.Optional.{optional, optional-none, optional-some}
 use Rattle.searching.specs.Offered.{is_for_at, offers_of, offers-read, offers-count, offers-few}
-use Rattle.searching.specs.Ordering.{digits, cached_order, shortest_of}
+use Rattle.searching.specs.Ordering.{Fewest, digits, cached_order, shortest_of}
 use Rattle.searching.specs.Wanted.{NoneFor, order-unwanted}
 use Rattle.searching.specs.Replayed.{numbers_in, numbers-back, loads_at, loads-calls}
-use Rattle.searching.specs.Found.{sought_by, count_in, order_in, finding_of, Clear, Judged}
-use Rattle.searching.specs.declared.Fewest.{Fewest}
-use Rattle.searching.specs.declared.Fewest.TheVariants.{Loads, NoLoads}
-use Rattle.searching.specs.declared.Finding.{Finding}
-use Rattle.searching.specs.declared.Finding.TheVariants.{Refused}
+use Rattle.searching.specs.Found.{sought_by, count_in, order_in, Clear, Denies}
 
 -- a second store of the published lengths becomes a box that isn't broken
 pub copied-box : (box second : Tables) → shaped second ≡ true → broken box ≡ false → copied_tables box second ≡ box
@@ -90,13 +87,13 @@ module _ (cells files : List ℕ) (l m : ℕ) where
   pub none_end : (i n : ℕ) → NoneYet i → n ≤ i → n ≡ length cells / 4 → NoneFor cells files (at l m)
   none_end i n h k e j w = h j (omega (arith, k, e, w))
 
-pub loads-there : (o : Option ℕ) (f : Found) (n : ℕ) → f ≡ found-is o → f ≡ At n → Loads 0 0 ≡ shortest_of (cached_order o)
+pub loads-there : (o : Option ℕ) (f : code.Option ℕ) (n : ℕ) → f ≡ optional o → f ≡ Some n → Some (record { loads = 0; code = 0 }) ≡ shortest_of (cached_order o)
 unfolding shortest_of cached_order digits
-loads-there o f n e q = rw (found_at o n (sym e ∙ q)) refl
+loads-there o f n e q = rw (optional-some o n (sym e ∙ q)) refl
 
-pub loads-absent : (o : Option ℕ) (f : Found) → f ≡ found-is o → f ≡ Absent → NoLoads ≡ shortest_of (cached_order o)
+pub loads-absent : (o : Option ℕ) (f : code.Option ℕ) → f ≡ optional o → f ≡ None → None ≡ shortest_of (cached_order o)
 unfolding shortest_of cached_order
-loads-absent o f e q = rw (found-absent o (sym e ∙ q)) refl
+loads-absent o f e q = rw (optional-none o (sym e ∙ q)) refl
 
 pub unwanted : (cells files : List ℕ) (l m : ℕ) (t : Tables) → is_some (offers_in cells files) ≡ true → NoneFor cells files (at l m) → (s : Fewest)
     → s ≡ shortest_of (cached_order (find (rows (entry_at t.cache) (get_or t.counts count_cache 0) 0) (at l m))) → s ≡ shortest_of (order (offers_of cells files) (at l m) (view t))
@@ -104,53 +101,47 @@ unfolding view view_over
 unwanted cells files l m t reads h s e = e ∙ ap shortest_of (sym (order-unwanted cells files (at l m) reads h (view t)))
 
 module _ (l n : ℕ) (cells files : List ℕ) (box second : Tables) where
-  pub search-denied : (w : ℕ) → Judged l n cells files box second w → (w ≡ 0 → ⊥) → searched (sought_by (Refused (Word w))) second ≡ search l n cells files box second
+  pub search-denied : (w : Refusal) → Denies l n cells files box second w → searched (sought_by (Err w)) second ≡ search l n cells files box second
   unfolding sought_by
-  search-denied w j z = sym (j.denies z)
+  search-denied w e = sym e
 
-  by_word : (w : ℕ) → (w ≡ 0 → ⊥) → search l n cells files box second ≡ searched (denied_search (Word w)) second → Judged l n cells files box second w
-  by_word w z e = record { denies = λ _. e; clears = λ q. absurd (z q) }
-
-  pub other-lengths : shaped second ≡ false → Judged l n cells files box second 1
-  other-lengths e = by_word 1 (λ q. omega (arith, q)) (first-fails l n cells files box second (ap (λ (b : Bool). b && not (broken box)) e))
+  pub other-lengths : shaped second ≡ false → Denies l n cells files box second (Word 1)
+  other-lengths e = first-fails l n cells files box second (ap (λ (b : Bool). b && not (broken box)) e)
 
   module _ (s : shaped second ≡ true) where
-    pub broken-box : broken box ≡ true → Judged l n cells files box second 1
-    broken-box e = by_word 1 (λ q. omega (arith, q)) (first-fails l n cells files box second (λ i. s i && not (e i)))
+    pub broken-box : broken box ≡ true → Denies l n cells files box second (Word 1)
+    broken-box e = first-fails l n cells files box second (λ i. s i && not (e i))
 
     module _ (h : broken box ≡ false) where
       first_holds : (shaped second && not (broken box)) ≡ true
       first_holds = λ i. s i && not (h i)
 
-      pub no-loader : loader_limit ≤ l → Judged l n cells files box second 3
-      no-loader e = by_word 3 (λ q. omega (arith, q)) (second-fails l n cells files box second first_holds (ap (λ (b : Bool). b && leb name_object n) (le-ltb l loader_limit e)))
+      pub no-loader : loader_limit ≤ l → Denies l n cells files box second (Word 3)
+      no-loader e = second-fails l n cells files box second first_holds (ap (λ (b : Bool). b && leb name_object n) (le-ltb l loader_limit e))
 
       module _ (a : l < loader_limit) where
-        pub no_name : n < name_object → Judged l n cells files box second 3
-        no_name e = by_word 3 (λ q. omega (arith, q)) (second-fails l n cells files box second first_holds (λ i. lt-ltb l loader_limit a i && lt-leb name_object n e i))
+        pub no_name : n < name_object → Denies l n cells files box second (Word 3)
+        no_name e = second-fails l n cells files box second first_holds (λ i. lt-ltb l loader_limit a i && lt-leb name_object n e i)
 
         module _ (b : name_object ≤ n) where
           second_holds : (ltb l loader_limit && leb name_object n) ≡ true
           second_holds = λ i. lt-ltb l loader_limit a i && le-leb name_object n b i
 
-          pub unread : is_some (offers_in cells files) ≡ false → Judged l n cells files box second 20
+          pub unread : is_some (offers_in cells files) ≡ false → Denies l n cells files box second (Word 20)
           unfolding is_some
-          unread e = by_word 20 (λ q. omega (arith, q)) (third l n cells files box second first_holds second_holds none (go (offers_in cells files) e))
+          unread e = third l n cells files box second first_holds second_holds none (go (offers_in cells files) e)
             where
               go : (o : Option (List Load)) → is_some o ≡ false → o ≡ none
               go none f = refl
               go (some cs) f = absurd (false≢true (sym f))
 
-          pub cleared : is_some (offers_in cells files) ≡ true → Judged l n cells files box second 0
+          pub cleared : is_some (offers_in cells files) ≡ true → Clear l n cells files box second
           cleared e = record {
-            denies = λ z. absurd (z refl);
-            clears = λ _. record {
-              shapes = s;
-              whole = h;
-              loader = a;
-              reads = e;
-              seeks = third l n cells files box second first_holds second_holds (some (offers_of cells files)) (offers-read cells files e);
-            };
+            shapes = s;
+            whole = h;
+            loader = a;
+            reads = e;
+            seeks = third l n cells files box second first_holds second_holds (some (offers_of cells files)) (offers-read cells files e);
           }
 
   -- what is found, and the second store after those loads
@@ -161,8 +152,8 @@ module _ (l n : ℕ) (cells files : List ℕ) (box second : Tables) where
         (works-on (offers_of cells files) (at l n) box k.whole is (order-works (offers_of cells files) (at l n) (view box) is e)).offered
 
     made : (o : Option (List ℕ)) → order (offers_of cells files) (at l n) (view box) ≡ o
-        → searched (sought_by (finding_of (shortest_of o))) (perform_all (loads_at cells files (numbers_in (count_in (shortest_of o)) (order_in (shortest_of o)))) box).tables ≡ sought (offers_of cells files) o box
-    unfolding sought_by finding_of shortest_of count_in order_in sought
+        → searched (sought_by (Ok (shortest_of o))) (perform_all (loads_at cells files (numbers_in (count_in (shortest_of o)) (order_in (shortest_of o)))) box).tables ≡ sought (offers_of cells files) o box
+    unfolding sought_by shortest_of count_in order_in sought
     made none e = unfold numbers_in loads_at perform_all in refl
     made (some is) e =
         let few : All (λ i. i < 8) is = all_more (λ i m. omega (arith, m, offers-few cells files k.reads)) is (in-range is e) in
@@ -170,8 +161,8 @@ module _ (l n : ℕ) (cells files : List ℕ) (box second : Tables) where
         ∙ ap (λ (cs : List Call). searched (found is) (perform_all cs box).tables) (loads-calls cells files k.reads is (in-range is e))
 
     pub search-made : (m : ℕ) → m ≡ l → (s : Fewest) → s ≡ shortest_of (order (offers_of cells files) (at m n) (view box)) → (a b : ℕ) → a ≡ count_in s → b ≡ order_in s → (u : Tables)
-        → u ≡ (perform_all (loads_at cells files (numbers_in a b)) box).tables → (f : Finding) → f ≡ finding_of s → searched (sought_by f) u ≡ search l n cells files box second
-    search-made m x s e a b p q u d f g =
+        → u ≡ (perform_all (loads_at cells files (numbers_in a b)) box).tables → searched (sought_by (Ok s)) u ≡ search l n cells files box second
+    search-made m x s e a b p q u d =
         let z : s ≡ shortest_of (order (offers_of cells files) (at l n) (view box)) = e ∙ ap (λ (y : ℕ). shortest_of (order (offers_of cells files) (at y n) (view box))) x in
-        (λ i. searched (sought_by ((g ∙ ap finding_of z) i)) ((d ∙ (λ j. (perform_all (loads_at cells files (numbers_in ((p ∙ ap count_in z) j) ((q ∙ ap order_in z) j))) box).tables)) i))
+        (λ i. searched (sought_by (Ok (z i))) ((d ∙ (λ j. (perform_all (loads_at cells files (numbers_in ((p ∙ ap count_in z) j) ((q ∙ ap order_in z) j))) box).tables)) i))
         ∙ (made (order (offers_of cells files) (at l n) (view box)) refl ∙ sym k.seeks)

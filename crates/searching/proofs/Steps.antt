@@ -1,4 +1,6 @@
 -- The search's parts that try no order: whether an offer is tried, the order of no loads, and the load of a row.
+use Rattle.std.specs.Prelude as code
+use Rattle.std.specs.Prelude.{Some, None, Ok, Err}
 use mathlib.Core.Path.{◌≡◌, refl, sym, ap, ◌∙◌}
 use mathlib.Core.Bool.{Bool, true, false, not, ◌&&◌}
 use mathlib.Core.Option.{Option}
@@ -14,12 +16,9 @@ use Rattle.definition.specs.Tables.{Tables}
 use Rattle.definition.specs.Calls.{done, load_define, load_record, call_define, call_record, call_rows, perform}
 use Rattle.laws.specs.Refusals.{load_call}
 use Rattle.classfile.specs.Reading.{part_of}
-use Rattle.resolution.specs.declared.Found.{Found}
-use Rattle.resolution.specs.declared.Found.TheVariants.{At, Absent}
-use Rattle.resolution.specs.Quick.{found, found_at, found-absent}
+use Rattle.cells.specs.Optional.{optional, optional-none, optional-some}
 use Rattle.searching.specs.Offered.{load_of, is_for_at}
 use Rattle.searching.specs.Ordering.{is_taken, taken_of, digits, ordered, cached_order, is_tried_at}
-use Rattle.searching.specs.declared.Ordered.TheVariants.{Order, NoOrder}
 
 module _ (cells files : List ℕ) (l x m n i u : ℕ) where
   pub tried-used : (u ≡ 0 → ⊥) → false ≡ (eqb u 0 && is_tried_at cells files (at l m) n i)
@@ -39,13 +38,13 @@ module _ (cells files : List ℕ) (l x m n i u : ℕ) where
       go zero g = unfold is_tried_at in (ap not (eq-eqb 0 0 refl) ∙ sym g)
       go (suc k) g = unfold is_tried_at in (ap not (ne_eqb (suc k) 0 (λ z. omega arith)) ∙ ap not (sym g))
 
-pub cached-there : (o : Option ℕ) (f : Found) (n : ℕ) → f ≡ found o → f ≡ At n → Order 0 ≡ ordered (cached_order o)
+pub cached-there : (o : Option ℕ) (f : code.Option ℕ) (n : ℕ) → f ≡ optional o → f ≡ Some n → Some 0 ≡ ordered (cached_order o)
 unfolding ordered cached_order digits
-cached-there o f n e q = rw (found_at o n (sym e ∙ q)) refl
+cached-there o f n e q = rw (optional-some o n (sym e ∙ q)) refl
 
-pub cached-absent : (o : Option ℕ) (f : Found) → f ≡ found o → f ≡ Absent → NoOrder ≡ ordered (cached_order o)
+pub cached-absent : (o : Option ℕ) (f : code.Option ℕ) → f ≡ optional o → f ≡ None → None ≡ ordered (cached_order o)
 unfolding ordered cached_order
-cached-absent o f e q = rw (found-absent o (sym e ∙ q)) refl
+cached-absent o f e q = rw (optional-none o (sym e ∙ q)) refl
 
 module _ (files : List ℕ) (k l a b : ℕ) (t u : Tables) (r : Reply) (v : Bool) (flag : v ≡ is_taken r) where
   pub load-define : k ≡ 1 → (m : ℕ) → m ≡ l → (f : List ℕ) → f ≡ part_of files a b → done r u ≡ perform (call_define m f) t → done v u ≡ taken_of (perform (call_rows (load_call (load_of files k l a b))) t)

@@ -1,4 +1,5 @@
 -- What one offer that is tried leads to, and what a search over the offers that are left answers at each turn, over tables.
+use Rattle.std.specs.Prelude.{Some, None}
 use mathlib.Core.Path.{◌≡◌, refl, sym, ap, ◌∙◌, subst}
 use mathlib.Core.Bool.{Bool, true, false, false≢true, ◌&&◌}
 use mathlib.Core.Option.{Option, none, some, none-ne-some}
@@ -24,17 +25,15 @@ use Rattle.layout.specs.Unbroken.{unbroken}
 use Rattle.copying.specs.Copied.{copied, copied-whole}
 use Rattle.searching.specs.Offered.{load_at, offers-few}
 use Rattle.searching.specs.Could.{could_at, could-not}
-use Rattle.searching.specs.Ordering.{taken_of, digits, ordered, cached_order, room, Fits, with_first, left_from, left_of, is_tried_at, pruned, through, tries, Searches}
-use Rattle.searching.specs.declared.Ordered.{Ordered}
-use Rattle.searching.specs.declared.Ordered.TheVariants.{Order, NoOrder}
+use Rattle.searching.specs.Ordering.{Ordered, taken_of, digits, ordered, cached_order, room, Fits, with_first, left_from, left_of, is_tried_at, pruned, through, tries, Searches}
 use Rattle.searching.proofs.Turns.{Went, went, stayed, undone, through-none, through-on, ordered-more, ordered-none, left-except, turn_on, turn-found, turn_end, branch, pruned-more, branch-not, branch-is}
 
-no-order : (o : Option (List ℕ)) → NoOrder ≡ ordered o → o ≡ none
+no-order : (o : Option (List ℕ)) → None ≡ ordered o → o ≡ none
 unfolding ordered
 no-order none h = refl
 no-order (some is) h = cc
 
-an-order : (o : Option (List ℕ)) (c : ℕ) → Order c ≡ ordered o → (is : List ℕ) × (o ≡ some is)
+an-order : (o : Option (List ℕ)) (c : ℕ) → Some c ≡ ordered o → (is : List ℕ) × (o ≡ some is)
 unfolding ordered
 an-order none c h = absurd (let z : ◌≡◌ {A = ℕ} 0 1 = cc in omega arith)
 an-order (some is) c h = (is, refl)
@@ -50,18 +49,18 @@ marked used zeros a b i h k e f = f ∙ ap (λ (x : List ℕ). set x i 1) (e ∙
 -- an order of at most 7 loads has room for one more
 pub fits_more : (n : ℕ) (r : Ordered) → n < 8 → Fits n r → Fits 7 r
 unfolding room
-fits_more zero (Order c) l h = omega arith
-fits_more (suc zero) (Order c) l h = omega arith
-fits_more (suc (suc zero)) (Order c) l h = omega arith
-fits_more (suc (suc (suc zero))) (Order c) l h = omega arith
-fits_more (suc (suc (suc (suc zero)))) (Order c) l h = omega arith
-fits_more (suc (suc (suc (suc (suc zero))))) (Order c) l h = omega arith
-fits_more (suc (suc (suc (suc (suc (suc zero)))))) (Order c) l h = omega arith
-fits_more (suc (suc (suc (suc (suc (suc (suc zero))))))) (Order c) l h = h
-fits_more (suc (suc (suc (suc (suc (suc (suc (suc n)))))))) (Order c) l h = absurd (omega arith)
-fits_more n NoOrder l h = tt
+fits_more zero (Some c) l h = omega arith
+fits_more (suc zero) (Some c) l h = omega arith
+fits_more (suc (suc zero)) (Some c) l h = omega arith
+fits_more (suc (suc (suc zero))) (Some c) l h = omega arith
+fits_more (suc (suc (suc (suc zero)))) (Some c) l h = omega arith
+fits_more (suc (suc (suc (suc (suc zero))))) (Some c) l h = omega arith
+fits_more (suc (suc (suc (suc (suc (suc zero)))))) (Some c) l h = omega arith
+fits_more (suc (suc (suc (suc (suc (suc (suc zero))))))) (Some c) l h = h
+fits_more (suc (suc (suc (suc (suc (suc (suc (suc n)))))))) (Some c) l h = absurd (omega arith)
+fits_more n None l h = tt
 
-pub fits_below : (r : Ordered) (c : ℕ) → Fits 7 r → r ≡ Order c → c < 2097152
+pub fits_below : (r : Ordered) (c : ℕ) → Fits 7 r → r ≡ Some c → c < 2097152
 unfolding room
 fits_below r c h e = subst (Fits 7) e h
 
@@ -74,7 +73,7 @@ module _ (cells files : List ℕ) (q : Request) (n i : ℕ) (used : List ℕ) (t
   this = through cells files q n (left_of cells used) (view t) i
 
   -- its load is refused
-  pub one-refused : b ≡ false → Searches this (suc n) t u NoOrder
+  pub one-refused : b ≡ false → Searches this (suc n) t u None
   unfolding ordered
   one-refused f =
       let s = stayed (load_at cells files i) t u b h e f in
@@ -100,7 +99,7 @@ module _ (cells files : List ℕ) (q : Request) (n i : ℕ) (used : List ℕ) (t
 
     module _ (v : Tables) (r : Ordered) (s : Searches (pruned cells files q n (left_of cells next) (view u)) n u v r) where
       -- it leads to an order
-      pub one_found : (c : ℕ) → r ≡ Order c → i < 8 → (w : Tables) → Searches this (suc n) t w (Order (i + 8 * c))
+      pub one_found : (c : ℕ) → r ≡ Some c → i < 8 → (w : Tables) → Searches this (suc n) t w (Some (i + 8 * c))
       unfolding room
       one_found c p k w = record {
         answers = ordered-more i (pruned cells files q n (left_of cells next) (view u)) c (sym p ∙ s.answers) ∙ ap ordered (sym leads);
@@ -109,7 +108,7 @@ module _ (cells files : List ℕ) (q : Request) (n i : ℕ) (used : List ℕ) (t
       }
 
       -- it doesn't, and the counts are set back
-      pub one_none : r ≡ NoOrder → v.objects ≡ t.objects → v.frames ≡ t.frames → Searches this (suc n) t (set_back t v) NoOrder
+      pub one_none : r ≡ None → v.objects ≡ t.objects → v.frames ≡ t.frames → Searches this (suc n) t (set_back t v) None
       one_none p o f =
           let k = s.back p in
           let d = undone (load_at cells files i) t u v h it k.0 k.1 o f in
@@ -120,14 +119,14 @@ module _ (cells files : List ℕ) (q : Request) (n i : ℕ) (used : List ℕ) (t
           }
 
       -- the counts copied before the load and copied back
-      pub one-undone : r ≡ NoOrder → v.objects ≡ t.objects → v.frames ≡ t.frames → (zeros saved counts : List ℕ) → length zeros ≡ 1193 → saved ≡ copied t.counts zeros → counts ≡ copied saved v.counts
-          → Searches this (suc n) t (tables counts v.classes v.kept v.cache v.ties v.subtypes v.objects v.frames) NoOrder
+      pub one-undone : r ≡ None → v.objects ≡ t.objects → v.frames ≡ t.frames → (zeros saved counts : List ℕ) → length zeros ≡ 1193 → saved ≡ copied t.counts zeros → counts ≡ copied saved v.counts
+          → Searches this (suc n) t (tables counts v.classes v.kept v.cache v.ties v.subtypes v.objects v.frames) None
       one-undone p o f zeros saved counts k a c =
           let m : length t.counts ≡ 1193 = (unbroken t h).lengths.counts in
           let d : length v.counts ≡ 1193 = (unbroken v (s.back p).0).lengths.counts in
           let x : saved ≡ t.counts = a ∙ copied-whole t.counts zeros (m ∙ sym k) in
           let w : counts ≡ t.counts = c ∙ (ap (λ (z : List ℕ). copied z v.counts) x ∙ copied-whole t.counts v.counts (m ∙ sym d)) in
-          subst (λ (z : List ℕ). Searches this (suc n) t (tables z v.classes v.kept v.cache v.ties v.subtypes v.objects v.frames) NoOrder) (sym w) (one_none p o f)
+          subst (λ (z : List ℕ). Searches this (suc n) t (tables z v.classes v.kept v.cache v.ties v.subtypes v.objects v.frames) None) (sym w) (one_none p o f)
 
       -- so after it
       pub one-done : (o : Ordered) → o ≡ with_first i r → i < 8 → v.objects ≡ t.objects → v.frames ≡ t.frames → (zeros saved counts : List ℕ) → length zeros ≡ 1193 → saved ≡ copied t.counts zeros → counts ≡ copied saved v.counts
@@ -135,8 +134,8 @@ module _ (cells files : List ℕ) (q : Request) (n i : ℕ) (used : List ℕ) (t
       one-done o a k ob fr zeros saved counts z sv cs = subst (Searches this (suc n) t (tables counts v.classes v.kept v.cache v.ties v.subtypes v.objects v.frames)) (sym a) (go r refl)
         where
           go : (x : Ordered) → r ≡ x → Searches this (suc n) t (tables counts v.classes v.kept v.cache v.ties v.subtypes v.objects v.frames) (with_first i x)
-          go (Order c) p = one_found c p k (tables counts v.classes v.kept v.cache v.ties v.subtypes v.objects v.frames)
-          go NoOrder p = one-undone p ob fr zeros saved counts z sv cs
+          go (Some c) p = one_found c p k (tables counts v.classes v.kept v.cache v.ties v.subtypes v.objects v.frames)
+          go None p = one-undone p ob fr zeros saved counts z sv cs
 
 -- An offer that isn't tried, and one that is
 
@@ -152,17 +151,17 @@ module _ (cells files : List ℕ) (q : Request) (n i : ℕ) (used : List ℕ) (t
   unfolding tries
   tries-through f = rw (f, tries) refl
 
-  pub not-tried : broken t ≡ false → test ≡ false → Searches (tries cells files q n used (view t) i) (suc n) t t NoOrder
+  pub not-tried : broken t ≡ false → test ≡ false → Searches (tries cells files q n used (view t) i) (suc n) t t None
   unfolding ordered
   not-tried h f = record { answers = sym (ap ordered (tries-none f)); fits = tt; back = λ _. (h, refl) }
 
   -- nor is one tried whose load can be refused at once
   pub not-worth : broken t ≡ false → is_some (offers_in cells files) ≡ true → i < length cells / 4
-      → (test && could_at t.counts t.classes t.kept t.cache cells files i) ≡ false → Searches (tries cells files q n used (view t) i) (suc n) t t NoOrder
+      → (test && could_at t.counts t.classes t.kept t.cache cells files i) ≡ false → Searches (tries cells files q n used (view t) i) (suc n) t t None
   unfolding ordered
   not-worth h reads l = go test refl
     where
-      go : (b : Bool) → test ≡ b → (b && could_at t.counts t.classes t.kept t.cache cells files i) ≡ false → Searches (tries cells files q n used (view t) i) (suc n) t t NoOrder
+      go : (b : Bool) → test ≡ b → (b && could_at t.counts t.classes t.kept t.cache cells files i) ≡ false → Searches (tries cells files q n used (view t) i) (suc n) t t None
       go false e f = not-tried h e
       go true e f = record {
         answers = sym (ap ordered (tries-through e ∙ through-none cells files q n (left_of cells used) (view t) i reads l (could-not t h cells files i f)));
@@ -228,7 +227,7 @@ module _ (cells files : List ℕ) (q : Request) (n : ℕ) (used : List ℕ) (t :
       here = branch-is cells files q n (left_of cells used) (view t) i parts.1 ∙ ap (λ (y : Rows). through cells files q n (left_of cells used) y i) (sym w.shows)
 
       -- it leads to none
-      pub turning-on : r ≡ NoOrder → Turning cells files q n used t u k (i + 1)
+      pub turning-on : r ≡ None → Turning cells files q n used t u k (i + 1)
       turning-on p = record {
         up_to = omega arith;
         whole = (x.back p).0;
@@ -237,7 +236,7 @@ module _ (cells files : List ℕ) (q : Request) (n : ℕ) (used : List ℕ) (t :
       }
 
       -- it leads to an order
-      pub turning-found : (c : ℕ) → r ≡ Order c → (v : Tables) → Searches (pruned cells files q (suc n) (left_of cells used) (view t)) (suc n) t v (Order c)
+      pub turning-found : (c : ℕ) → r ≡ Some c → (v : Tables) → Searches (pruned cells files q (suc n) (left_of cells used) (view t)) (suc n) t v (Some c)
       turning-found c p v =
           let o = an-order (through cells files q n (left_of cells used) (view s) i) c (sym p ∙ x.answers) in
           record {
@@ -248,7 +247,7 @@ module _ (cells files : List ℕ) (q : Request) (n : ℕ) (used : List ℕ) (t :
 
     module _ (u : Tables) (r : Ordered) (x : Searches (tries cells files q n used (view s) i) (suc n) s u r) where
       -- it leads to none, or isn't tried
-      pub turns-on : r ≡ NoOrder → Turning cells files q n used t u k (i + 1)
+      pub turns-on : r ≡ None → Turning cells files q n used t u k (i + 1)
       turns-on p = go (test cells files q n i used s) refl
         where
           go : (b : Bool) → test cells files q n i used s ≡ b → Turning cells files q n used t u k (i + 1)
@@ -258,15 +257,15 @@ module _ (cells files : List ℕ) (q : Request) (n : ℕ) (used : List ℕ) (t :
               record { up_to = y.up_to; whole = (x.back p).0; shows = (x.back p).1 ∙ w.shows; left = y.left }
 
       -- it leads to an order
-      pub turns-found : (c : ℕ) → r ≡ Order c → (v : Tables) → Searches (pruned cells files q (suc n) (left_of cells used) (view t)) (suc n) t v (Order c)
+      pub turns-found : (c : ℕ) → r ≡ Some c → (v : Tables) → Searches (pruned cells files q (suc n) (left_of cells used) (view t)) (suc n) t v (Some c)
       turns-found c p v = go (test cells files q n i used s) refl
         where
-          go : (b : Bool) → test cells files q n i used s ≡ b → Searches (pruned cells files q (suc n) (left_of cells used) (view t)) (suc n) t v (Order c)
+          go : (b : Bool) → test cells files q n i used s ≡ b → Searches (pruned cells files q (suc n) (left_of cells used) (view t)) (suc n) t v (Some c)
           go true e = turning-found e u r (subst (λ (o : Option (List ℕ)). Searches o (suc n) s u r) (tries-through cells files q n i used s e) x) c p v
           go false e = absurd (none-ne-some (an-order _ c (sym p ∙ x.answers)).0 (sym (tries-none cells files q n i used s e) ∙ (an-order _ c (sym p ∙ x.answers)).1))
 
   -- none is left
-  pub turning-end : (s : Tables) (k i : ℕ) → Turning cells files q n used t s k i → k ≤ i → Searches (pruned cells files q (suc n) (left_of cells used) (view t)) (suc n) t s NoOrder
+  pub turning-end : (s : Tables) (k i : ℕ) → Turning cells files q n used t s k i → k ≤ i → Searches (pruned cells files q (suc n) (left_of cells used) (view t)) (suc n) t s None
   unfolding ordered
   turning-end s k i w l = record {
     answers = ap ordered (sym (turn_end (branch cells files q n (left_of cells used) (view t)) used k i l) ∙ w.left);

@@ -1,4 +1,5 @@
 -- Trying orders: what a load of the second store leaves, that it is undone by the counts before it, and the turns of the search over the offers that are left.
+use Rattle.std.specs.Prelude.{Some, None}
 use mathlib.Core.Path.{◌≡◌, refl, sym, ap, ◌∙◌, subst}
 use mathlib.Core.Bool.{Bool, true, false, false≢true}
 use mathlib.Core.Option.{Option, none, some, none-ne-some}
@@ -33,7 +34,6 @@ use Rattle.laws.specs.Pruned.{is_tried, pruned_of}
 use Rattle.layout.specs.SetBack.{Continues, continues-self, loads-continue, set_back, set-back, set-back-unbroken}
 use Rattle.searching.specs.Offered.{load_at, offers_of, offered}
 use Rattle.searching.specs.Ordering.{is_taken, taken_of, digits, ordered, is_tried_at, pruned, through, left_from}
-use Rattle.searching.specs.declared.Ordered.TheVariants.{Order, NoOrder}
 
 -- A load
 
@@ -127,12 +127,12 @@ module _ (cells files : List ℕ) (q : Request) (n : ℕ) (left : List ℕ) (r :
   through-on x h = rw (at_row ∙ h) refl
 
 module _ (i : ℕ) where
-  pub ordered-more : (o : Option (List ℕ)) (c : ℕ) → Order c ≡ ordered o → Order (i + 8 * c) ≡ ordered (o >>= λ is. some (i ∷ is))
+  pub ordered-more : (o : Option (List ℕ)) (c : ℕ) → Some c ≡ ordered o → Some (i + 8 * c) ≡ ordered (o >>= λ is. some (i ∷ is))
   unfolding ordered digits ◌>>=◌
   ordered-more none c h = cc
-  ordered-more (some is) c h = let z : c ≡ digits is = cc in ap (λ (d : ℕ). Order (i + 8 * d)) z
+  ordered-more (some is) c h = let z : c ≡ digits is = cc in ap (λ (d : ℕ). Some (i + 8 * d)) z
 
-  pub ordered-none : (o : Option (List ℕ)) → NoOrder ≡ ordered o → NoOrder ≡ ordered (o >>= λ is. some (i ∷ is))
+  pub ordered-none : (o : Option (List ℕ)) → None ≡ ordered o → None ≡ ordered (o >>= λ is. some (i ∷ is))
   unfolding ordered ◌>>=◌
   ordered-none none h = refl
   ordered-none (some is) h = cc

@@ -1,4 +1,7 @@
 -- Orders as numbers, the offers that are left, and what a search of orders of n loads answers and leaves.
+use Rattle.std.specs.Prelude as code
+use Rattle.std.specs.Prelude.{Some, None}
+use Rattle.searching.specs.declared.Order.{Order}
 use Rattle.std.specs.Prelude.{◌≡◌, Bool, true, not, ◌&&◌, List, [], ◌∷◌, ℕ, zero, suc, ◌+◌, ◌*◌, ◌/◌, ◌<◌, length, get_or, eqb}
 use Rattle.std.proofs.Common.{sym, ◌∙◌}
 use Rattle.std.proofs.Math.Path.{ap}
@@ -20,10 +23,6 @@ use Rattle.laws.specs.Pruned.{pruned_of}
 use Rattle.unbroken.specs.Offered.{request_of, Caches, load-caches, is_for, gives, leaves}
 use Rattle.classfile.specs.Laws.{name_of}
 use Rattle.searching.specs.Offered.{is_for_load, is_for_at, offers_of, loads-at}
-use Rattle.searching.specs.declared.Ordered.{Ordered}
-use Rattle.searching.specs.declared.Ordered.TheVariants.{Order, NoOrder}
-use Rattle.searching.specs.declared.Fewest.{Fewest}
-use Rattle.searching.specs.declared.Fewest.TheVariants.{Loads, NoLoads}
 
 -- A reply that is no refusal
 
@@ -38,6 +37,14 @@ is_taken (Denied w) = false
 abbrev pub taken_of : Done Reply → Done Bool
 taken_of d = done (is_taken d.answer) d.tables
 
+-- An order as the code has it, and the shortest with how many loads it has
+
+abbrev pub Ordered : Type 0
+Ordered = code.Option ℕ
+
+abbrev pub Fewest : Type 0
+Fewest = code.Option Order
+
 -- An order as a number: the offers' numbers as its digits to the base 8, the first the lowest
 
 unfoldable pub digits : List ℕ → ℕ
@@ -45,8 +52,8 @@ digits [] = 0
 digits (i ∷ is) = i + 8 * digits is
 
 unfoldable pub ordered : Option (List ℕ) → Ordered
-ordered none = NoOrder
-ordered (some is) = Order (digits is)
+ordered none = None
+ordered (some is) = Some (digits is)
 
 -- numbers of n digits are below this
 unfoldable pub room : ℕ → ℕ
@@ -54,12 +61,12 @@ room zero = 1
 room (suc n) = 8 * room n
 
 abbrev pub Fits : ℕ → Ordered → Type 0
-Fits n (Order c) = c < room n
-Fits n NoOrder = Unit {0}
+Fits n (Some c) = c < room n
+Fits n None = Unit {0}
 
 abbrev pub with_first : ℕ → Ordered → Ordered
-with_first i (Order c) = Order (i + 8 * c)
-with_first i NoOrder = NoOrder
+with_first i (Some c) = Some (i + 8 * c)
+with_first i None = None
 
 unfoldable pub cached_order : Option ℕ → Option (List ℕ)
 cached_order none = none
@@ -119,7 +126,7 @@ module _ (cells files : List ℕ) (q : Request) where
 pub record Searches (o : Option (List ℕ)) (n : ℕ) (t u : Tables) (r : Ordered) : Type 0 where
   pub answers : r ≡ ordered o
   pub fits : Fits n r
-  pub back : r ≡ NoOrder → (broken u ≡ false) × (view u ≡ view t)
+  pub back : r ≡ None → (broken u ≡ false) × (view u ≡ view t)
 
 -- orders of n loads of the offers that aren't used, for the request of loader l and name m; and those of one load more that begin with offer i, if it is tried
 abbrev pub Finds : List ℕ → List ℕ → ℕ → ℕ → ℕ → List ℕ → Tables → Tables → Ordered → Type 0
@@ -131,5 +138,5 @@ LeadsOn cells files l m n used i t u r = Searches (tries cells files (at l m) n 
 -- The shortest order as numbers: how many loads, and the order
 
 unfoldable pub shortest_of : Option (List ℕ) → Fewest
-shortest_of none = NoLoads
-shortest_of (some is) = Loads (length is) (digits is)
+shortest_of none = None
+shortest_of (some is) = Some (record { loads = length is; code = digits is })

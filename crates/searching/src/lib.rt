@@ -9,27 +9,11 @@ mod shortest; // shortest.rt: orders by rising length
 mod replaying; // replaying.rt: the loads of an order, made
 mod searches; // searches.rt: the search, its tests and the second store
 
-use definition::Refusal;
 pub use searches::search;
 
-// An order of loads, as a number: the offers' numbers as its digits to the base 8, the first load's the lowest. Or there is none.
+// An order of loads: how many it has, and the order as a number, with the offers' numbers as its digits to the base 8, the first load's the lowest.
 #[derive(Clone, Copy)]
-enum Ordered {
-    Order(u32),
-    NoOrder,
-}
-
-// The shortest order: how many loads it has, and the order as a number. Or there is none.
-#[derive(Clone, Copy)]
-enum Fewest {
-    Loads(u32, u32),
-    NoLoads,
-}
-
-// What a search answers: an order, by how many loads it has and the order as a number; that there is none; or a refusal.
-#[derive(Clone, Copy)]
-pub enum Finding {
-    Found(u32, u32),
-    NotFound,
-    Refused(Refusal),
+pub struct Order {
+    pub loads: u32,
+    pub code: u32,
 }

@@ -40,12 +40,10 @@ pub(crate) fn read_offers(offers: &[u32], files: &[u8]) -> bool
         return false;
     }
     let n = offers.len() / OFFER_CELLS;
-    let mut i = 0;
-    while i < n {
+    for i in 0..n {
         if !is_offer(offers, files, i) {
             return false;
         }
-        i += 1;
     }
     true
 }

@@ -24,8 +24,7 @@ pub(crate) fn replay(
     ensures { tables counts.new classes.new kept.new cache.new ties.new subtypes.new objects.now frames.now ≡ (perform_all (loads_at offers.now files.now (numbers_in n code)) (tables counts.old classes.old kept.old cache.old ties.old subtypes.old objects.now frames.now)).tables }
 {
     let mut rest = code;
-    let mut k: u32 = 0;
-    while k < n {
+    for k in 0..n {
         load_one(
             counts,
             classes,
@@ -40,6 +39,5 @@ pub(crate) fn replay(
             (rest % 8) as usize,
         );
         rest = rest / 8;
-        k += 1;
     }
 }

@@ -1,59 +1,51 @@
 // The search: its tests, the order that is found by tries on the second store, and that store as the loads found leave it.
-ghost use Rattle.std.specs.Prelude.{◌≡◌, true, false, get_or};
-ghost use Rattle.definition.specs.Numbers.{count_cache};
-ghost use Rattle.definition.specs.Lists.{rows, is_some};
+ghost use Rattle.std.specs.Prelude.{◌≡◌, true, false, MatchResult};
+ghost use Rattle.definition.specs.Lists.{is_some};
 ghost use Rattle.definition.specs.Requests.{at};
 ghost use Rattle.definition.specs.Classes.{find};
-ghost use Rattle.definition.specs.Tables.{tables, shaped, entry_at, view};
+ghost use Rattle.definition.specs.Tables.{tables, shaped, view};
 ghost use Rattle.definition.specs.Broken.{broken};
 ghost use Rattle.definition.specs.Calls.{perform_all};
 ghost use Rattle.definition.specs.Offers.{offers_in, order};
 ghost use Rattle.definition.specs.Searching.{searched, search};
+ghost use Rattle.resolution.specs.Quick.{base_of};
 ghost use Rattle.searching.specs.Offered.{offers_of};
 ghost use Rattle.searching.specs.Ordering.{cached_order, shortest_of};
 ghost use Rattle.searching.specs.Wanted.{NoneFor};
 ghost use Rattle.searching.specs.Replayed.{numbers_in, loads_at};
-ghost use Rattle.searching.specs.Found.{sought_by, count_in, order_in, finding_of, Judged};
+ghost use Rattle.searching.specs.Found.{sought_by, count_in, order_in, Clear, Denies};
 
+use crate::Order;
 use crate::offers::{is_for, read_offers};
 use crate::replaying::replay;
 use crate::shortest::shortest;
-use crate::{Fewest, Finding};
 use copying::fill;
 use definition::Refusal;
 use definition::numbers::{
     LOADER_LIMIT, NAME_OBJECT, OFFER_CELLS, WORD_BROKEN, WORD_OFFERS, WORD_UNKNOWN,
 };
+use resolution::Base;
 
-fn count_in(s: Fewest) -> u32
+fn count_in(s: Option<Order>) -> u32
     ensures { result ≡ count_in s }
 {
     match s {
-        Fewest::Loads(n, _) => n,
-        Fewest::NoLoads => 0,
+        Some(order) => order.loads,
+        None => 0,
     }
 }
 
-fn order_in(s: Fewest) -> u32
+fn order_in(s: Option<Order>) -> u32
     ensures { result ≡ order_in s }
 {
     match s {
-        Fewest::Loads(_, c) => c,
-        Fewest::NoLoads => 0,
+        Some(order) => order.code,
+        None => 0,
     }
 }
 
-fn finding_of(s: Fewest) -> Finding
-    ensures { result ≡ finding_of s }
-{
-    match s {
-        Fewest::Loads(n, c) => Finding::Found(n, c),
-        Fewest::NoLoads => Finding::NotFound,
-    }
-}
-
-// The word that a search is refused with, 0 if it isn't: of the second store only the lengths are looked at, and 3 judges the wanted request alone.
-fn word_of(
+// Whether a search is refused: of the second store only the lengths are looked at, and 3 judges the wanted request alone.
+fn judge(
     counts: &[u16],
     classes: &[u16],
     kept: &[u8],
@@ -74,8 +66,8 @@ fn word_of(
     name: u16,
     offers: &[u32],
     files: &[u8],
-) -> u8
-    ensures { Judged loader name offers.now files.now (tables counts.now classes.now kept.now cache.now ties.now subtypes.now objects.now frames.now) (tables second_counts.now second_classes.now second_kept.now second_cache.now second_ties.now second_subtypes.now second_objects.now second_frames.now) result }
+) -> Result<(), Refusal>
+    ensures { MatchResult result (λ done. Clear loader name offers.now files.now (tables counts.now classes.now kept.now cache.now ties.now subtypes.now objects.now frames.now) (tables second_counts.now second_classes.now second_kept.now second_cache.now second_ties.now second_subtypes.now second_objects.now second_frames.now)) (Denies loader name offers.now files.now (tables counts.now classes.now kept.now cache.now ties.now subtypes.now objects.now frames.now) (tables second_counts.now second_classes.now second_kept.now second_cache.now second_ties.now second_subtypes.now second_objects.now second_frames.now)) }
 {
     if !store::is_shaped(
         second_counts,
@@ -87,24 +79,23 @@ fn word_of(
         second_objects,
         second_frames,
     ) {
-        return WORD_BROKEN;
+        return Err(Refusal::Word(WORD_BROKEN));
     }
     if store::is_broken(
         counts, classes, kept, cache, ties, subtypes, objects, frames,
     ) {
-        return WORD_BROKEN;
+        return Err(Refusal::Word(WORD_BROKEN));
     }
     if LOADER_LIMIT <= loader {
-        return WORD_UNKNOWN;
+        return Err(Refusal::Word(WORD_UNKNOWN));
     }
     if name < NAME_OBJECT {
-        return WORD_UNKNOWN;
+        return Err(Refusal::Word(WORD_UNKNOWN));
     }
-    if read_offers(offers, files) {
-        0
-    } else {
-        WORD_OFFERS
+    if !read_offers(offers, files) {
+        return Err(Refusal::Word(WORD_OFFERS));
     }
+    Ok(())
 }
 
 // Whether an offer is for that request: where none is, no load gives it.
@@ -113,23 +104,21 @@ fn is_any_for(offers: &[u32], files: &[u8], loader: u16, name: u16) -> bool
     ensures { result ≡ false → NoneFor offers.now files.now (at loader name) }
 {
     let n = offers.len() / OFFER_CELLS;
-    let mut i = 0;
-    while i < n {
+    for i in 0..n {
         if is_for(offers, files, i, u32::from(loader), name) {
             return true;
         }
-        i += 1;
     }
     false
 }
 
 // The order of no loads, if the request is cached.
-fn no_loads(counts: &[u16], cache: &[u16], loader: u16, name: u16) -> Fewest
-    ensures { result ≡ shortest_of (cached_order (find (rows (entry_at cache.now) (get_or counts.now count_cache 0) 0) (at loader name))) }
+fn no_loads(base: &Base, loader: u16, name: u16) -> Option<Order>
+    ensures { result ≡ shortest_of (cached_order (find (base_of base.now).cache (at loader name))) }
 {
-    match resolution::find(counts, cache, loader, name) {
-        resolution::Found::At(_) => Fewest::Loads(0, 0),
-        resolution::Found::Absent => Fewest::NoLoads,
+    match base.find(loader, name) {
+        Some(_) => Some(Order { loads: 0, code: 0 }),
+        None => None,
     }
 }
 
@@ -155,12 +144,18 @@ fn find_order(
     name: u16,
     offers: &[u32],
     files: &[u8],
-) -> Fewest
+) -> Option<Order>
     requires { (shaped (tables second_counts.old second_classes.old second_kept.old second_cache.old second_ties.old second_subtypes.old second_objects.old second_frames.old) ≡ true) × (broken (tables counts.now classes.now kept.now cache.now ties.now subtypes.now objects.now frames.now) ≡ false) × (is_some (offers_in offers.now files.now) ≡ true) }
     ensures { result ≡ shortest_of (order (offers_of offers.now files.now) (at loader name) (view (tables counts.now classes.now kept.now cache.now ties.now subtypes.now objects.now frames.now))) }
 {
     if !is_any_for(offers, files, loader, name) {
-        return no_loads(counts, cache, loader, name);
+        let base = Base {
+            counts,
+            classes,
+            kept,
+            cache,
+        };
+        return no_loads(&base, loader, name);
     }
     fill(
         counts,
@@ -278,10 +273,10 @@ pub fn search(
     name: u16,
     offers: &[u32],
     files: &[u8],
-) -> Finding
+) -> Result<Option<Order>, Refusal>
     ensures { searched (sought_by result) (tables second_counts.new second_classes.new second_kept.new second_cache.new second_ties.new second_subtypes.new second_objects.new second_frames.new) ≡ search loader name offers.now files.now (tables counts.now classes.now kept.now cache.now ties.now subtypes.now objects.now frames.now) (tables second_counts.old second_classes.old second_kept.old second_cache.old second_ties.old second_subtypes.old second_objects.old second_frames.old) }
 {
-    let word = word_of(
+    judge(
         counts,
         classes,
         kept,
@@ -302,10 +297,7 @@ pub fn search(
         name,
         offers,
         files,
-    );
-    if word != 0 {
-        return Finding::Refused(Refusal::Word(word));
-    }
+    )?;
     let found = find_order(
         counts,
         classes,
@@ -350,5 +342,5 @@ pub fn search(
         count_in(found),
         order_in(found),
     );
-    finding_of(found)
+    Ok(found)
 }

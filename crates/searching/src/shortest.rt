@@ -8,8 +8,8 @@ ghost use Rattle.definition.specs.Offers.{offers_in, order};
 ghost use Rattle.searching.specs.Offered.{offers_of};
 ghost use Rattle.searching.specs.Ordering.{shortest_of};
 
+use crate::Order;
 use crate::trying::order_of;
-use crate::{Fewest, Ordered};
 use definition::numbers::{OFFER_CELLS, OFFER_LIMIT};
 
 // The order that is looked for, by tries on the tables: what these hold afterwards isn't said.
@@ -26,23 +26,24 @@ pub(crate) fn shortest(
     files: &[u8],
     loader: u16,
     name: u16,
-) -> Fewest
+) -> Option<Order>
     requires frames_value { broken (tables counts.old classes.old kept.old cache.old ties.old subtypes.old objects.now frames.now) ≡ false }
     requires files_value { is_some (offers_in offers.now files.now) ≡ true }
     ensures { result ≡ shortest_of (order (offers_of offers.now files.now) (at loader name) (view (tables counts.old classes.old kept.old cache.old ties.old subtypes.old objects.now frames.now))) }
 {
     let count = offers.len() / OFFER_CELLS;
     let used = [0u8; OFFER_LIMIT];
-    let mut n = 0;
-    while n <= count {
+    for n in 0..count + 1 {
         let found = order_of(
             counts, classes, kept, cache, ties, subtypes, objects, frames, offers, files, loader,
             name, n, &used,
         );
-        if let Ordered::Order(c) = found {
-            return Fewest::Loads(n as u32, c);
+        if let Some(code) = found {
+            return Some(Order {
+                loads: n as u32,
+                code,
+            });
         }
-        n += 1;
     }
-    Fewest::NoLoads
+    None
 }

@@ -9,29 +9,23 @@ ghost use Rattle.definition.specs.Broken.{broken};
 ghost use Rattle.definition.specs.Calls.{done, call_rows, perform};
 ghost use Rattle.laws.specs.Refusals.{load_call};
 ghost use Rattle.definition.specs.Offers.{offers_in};
+ghost use Rattle.resolution.specs.Quick.{base_of};
 ghost use Rattle.searching.specs.Offered.{load_at};
 ghost use Rattle.searching.specs.Could.{could_at};
 ghost use Rattle.searching.specs.Ordering.{is_taken, taken_of, is_tried_at, ordered, cached_order, Fits, with_first, LeadsOn, Finds};
 
-use crate::Ordered;
 use crate::asking::could_load;
 use crate::offers::{file_of, is_for};
-use copying::{copy8, copy16};
+use copying::copy;
 use definition::Reply;
 use definition::numbers::{COUNTS_LENGTH, OFFER_CELLS, OFFER_LIMIT};
+use resolution::Base;
 
 // A load's reply is no refusal.
 fn is_taken(reply: Reply) -> bool
     ensures { result ≡ is_taken reply }
 {
-    match reply {
-        Reply::Accepted => true,
-        Reply::Defined(_) => true,
-        Reply::Stepped(_) => true,
-        Reply::RanFor(_, _) => true,
-        Reply::Swept(_) => true,
-        Reply::Denied(_) => false,
-    }
+    !matches!(reply, Reply::Denied(_))
 }
 
 // The load of row i. Answers whether it is accepted.
@@ -106,10 +100,7 @@ fn is_tried(
 
 // Its load is worth trying: offer i is tried, and its load can't be refused at once.
 fn is_worth(
-    counts: &[u16],
-    classes: &[u16],
-    kept: &[u8],
-    cache: &[u16],
+    base: &Base,
     offers: &[u32],
     files: &[u8],
     loader: u16,
@@ -119,33 +110,33 @@ fn is_worth(
     i: usize,
 ) -> bool
     requires { i < short_range }
-    ensures { result ≡ ((eqb (get_or used.now i 0) 0 && is_tried_at offers.now files.now (at loader name) n i) && could_at counts.now classes.now kept.now cache.now offers.now files.now i) }
+    ensures { result ≡ ((eqb (get_or used.now i 0) 0 && is_tried_at offers.now files.now (at loader name) n i) && could_at base.now.counts.now base.now.classes.now base.now.kept.now base.now.cache.now offers.now files.now i) }
 {
     if !is_tried(offers, files, loader, name, n, used, i) {
         return false;
     }
-    could_load(counts, classes, kept, cache, offers, files, i)
+    could_load(base, offers, files, i)
 }
 
 // The order of no loads, if the request is cached.
-fn cached_order(counts: &[u16], cache: &[u16], loader: u16, name: u16) -> Ordered
-    ensures { result ≡ ordered (cached_order (find (rows (entry_at cache.now) (get_or counts.now count_cache 0) 0) (at loader name))) }
+fn cached_order(base: &Base, loader: u16, name: u16) -> Option<u32>
+    ensures { result ≡ ordered (cached_order (find (base_of base.now).cache (at loader name))) }
 {
-    match resolution::find(counts, cache, loader, name) {
-        resolution::Found::At(_) => Ordered::Order(0),
-        resolution::Found::Absent => Ordered::NoOrder,
+    match base.find(loader, name) {
+        Some(_) => Some(0),
+        None => None,
     }
 }
 
 // An order with offer i before it.
-fn with_first(i: usize, rest: Ordered) -> Ordered
+fn with_first(i: usize, rest: Option<u32>) -> Option<u32>
     requires i_bound { i < 8 }
     requires fits { Fits 7 rest }
     ensures { result ≡ with_first i rest }
 {
     match rest {
-        Ordered::Order(c) => Ordered::Order(i as u32 + 8 * c),
-        Ordered::NoOrder => Ordered::NoOrder,
+        Some(c) => Some(i as u32 + 8 * c),
+        None => None,
     }
 }
 
@@ -167,7 +158,7 @@ fn try_one(
     n: usize,
     used: &[u8],
     i: usize,
-) -> Ordered
+) -> Option<u32>
     requires frames_value { broken (tables counts.old classes.old kept.old cache.old ties.old subtypes.old objects.now frames.now) ≡ false }
     requires files_value { is_some (offers_in offers.now files.now) ≡ true }
     requires used_len { length used.now ≡ 8 }
@@ -175,26 +166,30 @@ fn try_one(
     requires n_bound { n < 8 }
     ensures { LeadsOn offers.now files.now loader name n used.now i (tables counts.old classes.old kept.old cache.old ties.old subtypes.old objects.now frames.now) (tables counts.new classes.new kept.new cache.new ties.new subtypes.new objects.now frames.now) result }
 {
-    if !is_worth(
-        counts, classes, kept, cache, offers, files, loader, name, n, used, i,
-    ) {
-        return Ordered::NoOrder;
+    let base = Base {
+        counts,
+        classes,
+        kept,
+        cache,
+    };
+    if !is_worth(&base, offers, files, loader, name, n, used, i) {
+        return None;
     }
     let mut saved = [0u16; COUNTS_LENGTH];
-    copy16(counts, &mut saved);
+    copy(counts, &mut saved);
     if !load_one(
         counts, classes, kept, cache, ties, subtypes, objects, frames, offers, files, i,
     ) {
-        return Ordered::NoOrder;
+        return None;
     }
     let mut next = [0u8; OFFER_LIMIT];
-    copy8(used, &mut next);
+    copy(used, &mut next);
     cells::put(&mut next, i, 1);
     let rest = order_of(
         counts, classes, kept, cache, ties, subtypes, objects, frames, offers, files, loader, name,
         n, &next,
     );
-    copy16(&saved, counts);
+    copy(&saved, counts);
     with_first(i, rest)
 }
 
@@ -215,7 +210,7 @@ pub(crate) fn order_of(
     name: u16,
     n: usize,
     used: &[u8],
-) -> Ordered
+) -> Option<u32>
     requires frames_value { broken (tables counts.old classes.old kept.old cache.old ties.old subtypes.old objects.now frames.now) ≡ false }
     requires files_value { is_some (offers_in offers.now files.now) ≡ true }
     requires used_len { length used.now ≡ 8 }
@@ -223,11 +218,16 @@ pub(crate) fn order_of(
     ensures { Finds offers.now files.now loader name n used.now (tables counts.old classes.old kept.old cache.old ties.old subtypes.old objects.now frames.now) (tables counts.new classes.new kept.new cache.new ties.new subtypes.new objects.now frames.now) result }
 {
     if n == 0 {
-        return cached_order(counts, cache, loader, name);
+        let base = Base {
+            counts,
+            classes,
+            kept,
+            cache,
+        };
+        return cached_order(&base, loader, name);
     }
     let count = offers.len() / OFFER_CELLS;
-    let mut i = 0;
-    while i < count {
+    for i in 0..count {
         let found = try_one(
             counts,
             classes,
@@ -245,10 +245,9 @@ pub(crate) fn order_of(
             used,
             i,
         );
-        if let Ordered::Order(c) = found {
-            return Ordered::Order(c);
+        if let Some(c) = found {
+            return Some(c);
         }
-        i += 1;
     }
-    Ordered::NoOrder
+    None
 }

@@ -25,4 +25,3 @@ pub returns-then-k-eq0 : goal.returns-then-k-eq0
 returns-then-k-eq0 c =
     let none = nothing-posted _ _ _ (sym c.tie_number-k.ensures.0 ∙ c.if-k-eq0.true) in
     record { counted = none.0; written = none.1; behind = (c.at-n.ensures, c.at-subtypes.ensures) }
-

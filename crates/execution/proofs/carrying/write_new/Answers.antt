@@ -1,5 +1,4 @@
 -- The types that were read are those of the class's slots, so the row begins as a new object's.
-use native.Mathlib.Omega.{arith}
 use Rattle.execution.specs.Carried.{written_new}
 use Rattle.execution.proofs.carrying.write_new.Goals as goal
 

@@ -1,6 +1,5 @@
 -- Each instruction is decided as the machine does: an arm hands on what the function of its instruction ensures.
 use Rattle.std.proofs.Common.{refl, ◌∙◌}
-use native.Mathlib.Omega.{arith}
 use Rattle.execution.specs.Decisions.{acted-frame, acted-return, acted-make, acted-access, narrow, frames-room}
 use Rattle.execution.proofs.deciding.act.Goals as goal
 

@@ -1,6 +1,5 @@
 -- A refusal leaves the row and the objects; else the slot is remembered for the receiver, and the value is written there.
 use Rattle.execution.specs.Reaches.{did-put}
-use borrow.Author.Tests.{not-true, not-false}
 use Rattle.std.proofs.Common.{sym, ◌∙◌}
 use native.Mathlib.Omega.{arith}
 use Rattle.execution.proofs.reaching.putfield.Goals as goal

@@ -1,6 +1,6 @@
 -- k instructions are walked, the row stands at point p with d operands, and the objects keep their length.
 use mathlib.Core.Path.{◌≡◌}
-use Prim.Native.Nat.{ℕ, ◌-◌, ◌≤◌}
+use Prim.Native.Nat.{ℕ}
 use lib.ListN.{length}
 use Rattle.execution.specs.Opcodes.{Numbers}
 use Rattle.execution.specs.Plain.{At}

@@ -1,8 +1,8 @@
 -- The run of steps: the loop has taken k of them, what is left of the run is the whole run, the store is not broken, what a new
 -- object asks for is at hand, and what is remembered is right. After a step come those that are done at once.
 use native.Mathlib.Omega.{arith}
-use Rattle.std.proofs.Common.{refl, sym, ◌∙◌}
-use Rattle.execution.specs.Runs.{run-stops, run_on, still-whole, next-room, room_for, room-few, run_ends, run-begins}
+use Rattle.std.proofs.Common.{sym, ◌∙◌}
+use Rattle.execution.specs.Runs.{run-stops, run_on, still-whole, next-room, room_for, room-few, run_ends}
 use Rattle.execution.specs.Ahead.{sound, go-on}
 use Rattle.execution.specs.Facts.{minds-step}
 use Rattle.execution.proofs.runs.steps.Goals as goal

@@ -18,4 +18,3 @@ steps-requires c = (c.requires.0, refl, none-noted _ _ _ _ _ _ 1)
 pub steps-requires-2 : goal.steps-requires-2
 unfolding numbers rows number_at version_at opcode_of pick
 steps-requires-2 c = (c.requires.0, refl, none-noted _ _ _ _ _ _ 512)
-

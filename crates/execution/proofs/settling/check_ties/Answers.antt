@@ -1,7 +1,6 @@
 -- The copy with the new rows, and the table of superclasses, say what the store with those ties posted says.
-use Rattle.std.proofs.Common.{refl, sym}
+use Rattle.std.proofs.Common.{refl}
 use mathlib.Core.List.{[]}
-use native.Mathlib.Omega.{arith}
 use lib.ListN.{get_or}
 use Rattle.posting.specs.Postings.{to_post}
 use Rattle.execution.specs.Agreeing.{posted-beside, names-posted}

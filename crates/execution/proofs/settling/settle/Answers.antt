@@ -1,6 +1,5 @@
 -- No room, then no ties under one loader, then full, then a clash, and else the plan with its ties.
 use Rattle.std.proofs.Common.{refl, sym, ◌∙◌}
-use native.Mathlib.Omega.{arith}
 use Rattle.definition.specs.Constraints.{agrees}
 use Rattle.unbroken.specs.Steps.{news-between}
 use Rattle.posting.specs.Postings.{to_post, ties-same}

@@ -1,5 +1,4 @@
 -- A refusal posts nothing; what was found is settled.
-use Rattle.std.proofs.Common.{refl}
 use Rattle.execution.proofs.settling.settle_access.Goals as goal
 
 pub settle-requires : goal.settle-requires

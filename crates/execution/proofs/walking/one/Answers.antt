@@ -63,4 +63,3 @@ returns-in-14 c = λ v e. c.branch-row-in-14.ensures v (e ∙ ap opcode_numbered
 pub returns-in-15 : goal.returns-in-15
 unfolding opcode_numbered pick
 returns-in-15 c = λ v e. c.branch-row-in-15.ensures v (e ∙ ap opcode_numbered c.in-15.is)
-

@@ -1,7 +1,7 @@
 -- The rows that the table holds are counted.
 use Rattle.std.proofs.Math.Path.{◌≡◌}
 use Rattle.std.proofs.Common.{ap, ◌∙◌}
-use Prim.Native.Nat.{ℕ, suc, ◌+◌, ◌-◌, ◌<◌}
+use Prim.Native.Nat.{ℕ, suc, ◌+◌}
 use native.Mathlib.Omega.{arith}
 use Rattle.definition.specs.Tables.{owner_at}
 use Rattle.frames.specs.Made.{owned_in, owned-one, owned-other, owned-end, held-made}

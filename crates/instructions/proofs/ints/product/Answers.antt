@@ -1,7 +1,5 @@
 -- The product of the bits doesn't pass 64 bits; its lowest 32 are those of the ints' product.
-use Prim.Native.Nat.{ℕ, ◌*◌, ◌<◌}
 use Rattle.std.proofs.Common.{sym}
-use native.Mathlib.Nat.{mul-le-mul}
 use native.Mathlib.Omega.{arith}
 use Rattle.laws.specs.Ints.{product-bits}
 use Rattle.instructions.proofs.ints.product.Goals as goal

@@ -9,7 +9,7 @@ size : (a b : ℕ) → a + b - a ≡ b
 size a b = omega arith
 
 pub returns-then-end-files : goal.returns-then-end-files
-returns-then-end-files c = rw (c.wide32-start.ensures.0, c.wide32.ensures.0, c.at.ensures, c.at-2.ensures, size _ _) (sym (part-there _ _ _ (rw (c.wide32-start.ensures.0, c.wide32.ensures.0, c.at.ensures, c.at-2.ensures) at c.if-end-files.true)))
+returns-then-end-files c = rw (c.at-start.ensures, c.at.ensures, size _ _) (sym (part-there _ _ _ (rw (c.at-start.ensures, c.at.ensures) at c.if-end-files.true)))
 
 pub returns-else-end-files : goal.returns-else-end-files
-returns-else-end-files c = sym (part-past _ _ _ (rw (c.wide32-start.ensures.0, c.wide32.ensures.0, c.at.ensures, c.at-2.ensures) at c.if-end-files.false))
+returns-else-end-files c = sym (part-past _ _ _ (rw (c.at-start.ensures, c.at.ensures) at c.if-end-files.false))

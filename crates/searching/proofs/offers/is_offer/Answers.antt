@@ -7,7 +7,7 @@ use Rattle.searching.proofs.offers.is_offer.Goals as goal
 
 pub returns-then-kind-eq-DEFINE : goal.returns-then-kind-eq-DEFINE
 unfolding offer_at
-returns-then-kind-eq-DEFINE c = rw (c.wide32-then-kind-eq-DEFINE.ensures.0, c.wide32.ensures.0, c.at.ensures, c.at-third.ensures) (sym (offer-define _ _ _ _ _ (sym c.at-kind.ensures ∙ c.if-kind-eq-DEFINE.true)))
+returns-then-kind-eq-DEFINE c = rw (c.at.ensures, c.at-third.ensures) (sym (offer-define _ _ _ _ _ (sym c.at-kind.ensures ∙ c.if-kind-eq-DEFINE.true)))
 
 pub returns-then-kind-eq-RECORD : goal.returns-then-kind-eq-RECORD
 unfolding offer_at

@@ -13,9 +13,6 @@ returns-then-offers-ne0 c = sym (cut_off _ _ c.if-offers.false c.if-offers-ne0.t
 pub loop-i-init : goal.loop-i-init
 loop-i-init c = (omega arith, omega (arith, c.if-offers.false), read-rows _ _ c.if-offers.false c.if-offers-ne0.false _ refl)
 
-pub is_offer-requires : goal.is_offer-requires
-is_offer-requires c = omega (arith, c.loop-i.invariant.1, c.loop-i-test.true)
-
 pub returns-then-not-is_offer : goal.returns-then-not-is_offer
 returns-then-not-is_offer c = sym (read-stop _ _ _ _ c.loop-i-test.true (sym c.is_offer.ensures ∙ c.if-not-is_offer.true)) ∙ c.loop-i.invariant.2
 

@@ -7,6 +7,3 @@ use Rattle.searching.proofs.offers.read_offers.Given as goal
 
 abbrev pub invariant-loop-i : goal.invariant-loop-i
 invariant-loop-i l = (l.i ≤ l.n) × (l.n ≤ 8) × (is_some (offers_from l.offers l.files (l.n - l.i) l.i) ≡ is_some (offers_in l.offers l.files))
-
-abbrev pub decreases-loop-i : goal.decreases-loop-i
-decreases-loop-i l = l.n - l.i

@@ -17,6 +17,3 @@ invariant-loop-k l =
     × (length l.cache ≡ length l.initial.cache)
     × (length l.ties ≡ length l.initial.ties)
     × (length l.subtypes ≡ length l.initial.subtypes)
-
-abbrev pub decreases-loop-k : goal.decreases-loop-k
-decreases-loop-k l = l.n - l.k

@@ -3,10 +3,10 @@ use mathlib.Core.Path.{refl}
 use Rattle.searching.specs.Found.{count_in}
 use Rattle.searching.proofs.searches.count_in.Goals as goal
 
-pub returns-in-Loads : goal.returns-in-Loads
+pub returns-in-Some : goal.returns-in-Some
 unfolding count_in
-returns-in-Loads c = rw c.in-Loads.is refl
+returns-in-Some c = rw c.in-Some.is refl
 
-pub returns-in-NoLoads : goal.returns-in-NoLoads
+pub returns-in-None : goal.returns-in-None
 unfolding count_in
-returns-in-NoLoads c = rw c.in-NoLoads.is refl
+returns-in-None c = rw c.in-None.is refl

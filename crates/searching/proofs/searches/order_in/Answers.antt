@@ -3,10 +3,10 @@ use mathlib.Core.Path.{refl}
 use Rattle.searching.specs.Found.{order_in}
 use Rattle.searching.proofs.searches.order_in.Goals as goal
 
-pub returns-in-Loads : goal.returns-in-Loads
+pub returns-in-Some : goal.returns-in-Some
 unfolding order_in
-returns-in-Loads c = rw c.in-Loads.is refl
+returns-in-Some c = rw c.in-Some.is refl
 
-pub returns-in-NoLoads : goal.returns-in-NoLoads
+pub returns-in-None : goal.returns-in-None
 unfolding order_in
-returns-in-NoLoads c = rw c.in-NoLoads.is refl
+returns-in-None c = rw c.in-None.is refl

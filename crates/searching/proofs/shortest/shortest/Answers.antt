@@ -19,53 +19,11 @@ order_of-found-requires c = record {
 pub overflow_cast-result : goal.overflow_cast-result
 overflow_cast-result c = omega (arith, offers-few c.args.offers.now c.args.files.now c.requires.files_value, c.loop-n-test.true)
 
-pub shape_of-counts-in-Order : goal.shape_of-counts-in-Order
-shape_of-counts-in-Order c = c.order_of-found.auto.counts ∙ c.loop-n.invariant.1
-
-pub shape_of-classes-in-Order : goal.shape_of-classes-in-Order
-shape_of-classes-in-Order c = c.order_of-found.auto.classes ∙ c.loop-n.invariant.2
-
-pub shape_of-kept-in-Order : goal.shape_of-kept-in-Order
-shape_of-kept-in-Order c = c.order_of-found.auto.kept ∙ c.loop-n.invariant.3
-
-pub shape_of-cache-in-Order : goal.shape_of-cache-in-Order
-shape_of-cache-in-Order c = c.order_of-found.auto.cache ∙ c.loop-n.invariant.4
-
-pub shape_of-ties-in-Order : goal.shape_of-ties-in-Order
-shape_of-ties-in-Order c = c.order_of-found.auto.ties ∙ c.loop-n.invariant.5
-
-pub shape_of-subtypes-in-Order : goal.shape_of-subtypes-in-Order
-shape_of-subtypes-in-Order c = c.order_of-found.auto.subtypes ∙ c.loop-n.invariant.6
-
-pub returns-in-Order : goal.returns-in-Order
-returns-in-Order c = rising-found _ _ _ _ _ _ _ _ c.loop-n.invariant.0 c.loop-n-test.true _ _ c.order_of-found.ensures _ c.in-Order.is
-
-pub overflow_add-n : goal.overflow_add-n
-overflow_add-n c = omega (arith, offers-few c.args.offers.now c.args.files.now c.requires.files_value, c.loop-n-test.true)
-
-pub loop-n-smaller : goal.loop-n-smaller
-loop-n-smaller c = omega (arith, c.loop-n-test.true)
+pub returns-in-Some : goal.returns-in-Some
+returns-in-Some c = rising-found _ _ _ _ _ _ _ _ c.loop-n.invariant.0 (omega (arith, c.loop-n-test.true)) _ _ c.order_of-found.ensures _ c.in-Some.is
 
 pub loop-n-preserved : goal.loop-n-preserved
-loop-n-preserved c = (rising-on _ _ _ _ _ _ _ _ c.loop-n.invariant.0 c.loop-n-test.true _ _ c.order_of-found.ensures c.in_default.is, c.order_of-found.auto.counts ∙ c.loop-n.invariant.1, c.order_of-found.auto.classes ∙ c.loop-n.invariant.2, c.order_of-found.auto.kept ∙ c.loop-n.invariant.3, c.order_of-found.auto.cache ∙ c.loop-n.invariant.4, c.order_of-found.auto.ties ∙ c.loop-n.invariant.5, c.order_of-found.auto.subtypes ∙ c.loop-n.invariant.6)
-
-pub shape_of-counts : goal.shape_of-counts
-shape_of-counts c = c.loop-n.invariant.1
-
-pub shape_of-classes : goal.shape_of-classes
-shape_of-classes c = c.loop-n.invariant.2
-
-pub shape_of-kept : goal.shape_of-kept
-shape_of-kept c = c.loop-n.invariant.3
-
-pub shape_of-cache : goal.shape_of-cache
-shape_of-cache c = c.loop-n.invariant.4
-
-pub shape_of-ties : goal.shape_of-ties
-shape_of-ties c = c.loop-n.invariant.5
-
-pub shape_of-subtypes : goal.shape_of-subtypes
-shape_of-subtypes c = c.loop-n.invariant.6
+loop-n-preserved c = (rising-on _ _ _ _ _ _ _ _ c.loop-n.invariant.0 (omega (arith, c.loop-n-test.true)) _ _ c.order_of-found.ensures c.in_default.is, c.order_of-found.auto.counts ∙ c.loop-n.invariant.1, c.order_of-found.auto.classes ∙ c.loop-n.invariant.2, c.order_of-found.auto.kept ∙ c.loop-n.invariant.3, c.order_of-found.auto.cache ∙ c.loop-n.invariant.4, c.order_of-found.auto.ties ∙ c.loop-n.invariant.5, c.order_of-found.auto.subtypes ∙ c.loop-n.invariant.6)
 
 pub returns : goal.returns
-returns c = rising-end _ _ _ _ _ _ _ _ c.loop-n.invariant.0 c.loop-n-test.false
+returns c = rising-end _ _ _ _ _ _ _ _ c.loop-n.invariant.0 (omega (arith, c.loop-n-test.false))

@@ -1,5 +1,4 @@
 -- By rising n: no order of fewer loads works, and the tables show what they showed.
-use Prim.Native.Nat.{◌+◌, ◌-◌}
 use mathlib.Core.Path.{◌≡◌}
 use lib.ListN.{length}
 use Rattle.definition.specs.Requests.{at}
@@ -16,6 +15,3 @@ invariant-loop-n l =
     × (length l.cache ≡ length l.initial.cache)
     × (length l.ties ≡ length l.initial.ties)
     × (length l.subtypes ≡ length l.initial.subtypes)
-
-abbrev pub decreases-loop-n : goal.decreases-loop-n
-decreases-loop-n l = l.count + 1 - l.n

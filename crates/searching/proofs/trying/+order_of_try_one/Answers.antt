@@ -1,4 +1,5 @@
 -- An order of n loads: none is tried by n = 0; else offer by offer, each by its load and the orders of one load fewer. Twice n falls at each call.
+use Rattle.resolution.specs.Quick.{quick_base}
 use Prim.Native.Nat.{◌<◌}
 use mathlib.Core.Path.{◌≡◌, refl, sym, ◌∙◌}
 use native.Mathlib.Omega.{arith}
@@ -11,14 +12,15 @@ use Rattle.searching.proofs.trying.+order_of_try_one.Goals as goal
 -- All that are left
 
 pub order_of-returns-then-n-eq0 : goal.order_of-returns-then-n-eq0
+unfolding quick_base
 order_of-returns-then-n-eq0 t c = of_none _ _ _ _ _ _ _ c.if-n-eq0.true c.requires.frames_value c.cached_order.ensures
 
 pub order_of-loop-i-init : goal.order_of-loop-i-init
 order_of-loop-i-init t c = (turning-start _ _ _ _ _ _ c.requires.frames_value _ refl, refl, refl, refl, refl, refl, refl)
 
-pub order_of-returns-in-Order : goal.order_of-returns-in-Order
-order_of-returns-in-Order t c =
-    of-all _ _ _ _ _ _ _ _ c.if-n-eq0.false (turns-found _ _ _ _ _ _ _ _ _ c.loop-i.invariant.0 c.loop-i-test.true _ _ c.try_one-found.ensures _ c.in-Order.is _)
+pub order_of-returns-in-Some : goal.order_of-returns-in-Some
+order_of-returns-in-Some t c =
+    of-all _ _ _ _ _ _ _ _ c.if-n-eq0.false (turns-found _ _ _ _ _ _ _ _ _ c.loop-i.invariant.0 c.loop-i-test.true _ _ c.try_one-found.ensures _ c.in-Some.is _)
 
 pub order_of-loop-i-preserved : goal.order_of-loop-i-preserved
 order_of-loop-i-preserved t c = (
@@ -59,7 +61,7 @@ try_one-order_of-rest-requires t c =
       omega (arith, c.decreases),
       (
         one-whole _ _ (at a.loader a.name) a.n _ a.used.now _ _ _ c.requires.frames_value c.requires.files_value c.requires.i_in_bounds c.load_one.ensures c.if-not-load_one.false,
-        (c.requires.files_value, (c.put.auto.t ∙ c.copy8.auto.target, omega (arith, c.requires.n_bound))),
+        (c.requires.files_value, (c.put.auto.t ∙ c.copy-2.auto.target, omega (arith, c.requires.n_bound))),
       ),
     )
 
@@ -76,6 +78,6 @@ try_one-returns t c =
     let len : length a.used.now ≡ 8 = c.requires.used_len in
     let flag = is-worth a.offers.now a.files.now (at a.loader a.name) a.n a.i a.used.now (tables a.counts.now a.classes.now a.kept.now a.cache.now a.ties.now a.subtypes.now a.objects.now a.frames.now) (sym c.is_worth.ensures ∙ c.if-not-is_worth.false) in
     is-tried _ _ _ _ _ _ _ _ _ flag
-    (one-done _ _ _ _ _ _ _ _ _ c.requires.frames_value c.requires.files_value c.requires.i_in_bounds c.load_one.ensures c.if-not-load_one.false _ (marked _ _ _ _ _ len refl c.copy8.ensures c.put.ensures)
+    (one-done _ _ _ _ _ _ _ _ _ c.requires.frames_value c.requires.files_value c.requires.i_in_bounds c.load_one.ensures c.if-not-load_one.false _ (marked _ _ _ _ _ len refl c.copy-2.ensures c.put.ensures)
     (is-unused a.offers.now a.files.now (at a.loader a.name) a.n a.i a.used.now (tables a.counts.now a.classes.now a.kept.now a.cache.now a.ties.now a.subtypes.now a.objects.now a.frames.now) flag)
-    (omega (arith, i8, len)) _ _ c.order_of-rest.ensures _ c.with_first.ensures i8 refl refl _ _ _ refl c.copy16.ensures c.copy16-2.ensures)
+    (omega (arith, i8, len)) _ _ c.order_of-rest.ensures _ c.with_first.ensures i8 refl refl _ _ _ refl c.copy.ensures c.copy-3.ensures)

@@ -22,6 +22,3 @@ invariant-order_of-loop-i l =
     × (length l.cache ≡ length l.initial.cache)
     × (length l.ties ≡ length l.initial.ties)
     × (length l.subtypes ≡ length l.initial.subtypes)
-
-abbrev pub decreases-order_of-loop-i : goal.decreases-order_of-loop-i
-decreases-order_of-loop-i l = l.count - l.i

@@ -2,8 +2,8 @@
 use Rattle.searching.proofs.Steps.{cached-there, cached-absent}
 use Rattle.searching.proofs.trying.cached_order.Goals as goal
 
-pub returns-in-At : goal.returns-in-At
-returns-in-At c = cached-there _ _ _ c.find.ensures c.in-At.is
+pub returns-in-Some : goal.returns-in-Some
+returns-in-Some c = cached-there _ _ _ c.find.ensures c.in-Some.is
 
-pub returns-in-Absent : goal.returns-in-Absent
-returns-in-Absent c = cached-absent _ _ c.find.ensures c.in-Absent.is
+pub returns-in-None : goal.returns-in-None
+returns-in-None c = cached-absent _ _ c.find.ensures c.in-None.is
