@@ -1,5 +1,6 @@
 -- What a host is told of a search: the kind, the refusal's number, how many loads, and of an order that is found eight cells more, the numbers of its offers and 0 behind them.
-use Rattle.std.specs.Prelude.{◌≡◌, List, [], ◌∷◌, ◌++◌, ℕ, zero, suc, ◌+◌, ◌-◌, ◌/◌, ◌%◌, ◌<◌, ◌≤◌, length, get_or, set}
+use Rattle.std.specs.Prelude as code
+use Rattle.std.specs.Prelude.{◌≡◌, Ok, Err, Some, None, List, [], ◌∷◌, ◌++◌, ℕ, zero, suc, ◌+◌, ◌-◌, ◌/◌, ◌%◌, ◌<◌, ◌≤◌, length, get_or, set}
 use Rattle.std.proofs.Math.Path.{refl}
 use Rattle.std.proofs.Common.{sym, ap, ◌∙◌, arith, add-one}
 use Rattle.definition.specs.Numbers.{offer_limit}
@@ -10,8 +11,7 @@ use Rattle.definition.specs.declared.Reply.TheVariants.{Denied}
 use Rattle.definition.specs.Tables.{Tables}
 use Rattle.definition.specs.Searching.{Sought, found, not_found, denied_search, Searched, searched, search}
 use Rattle.layout.specs.Cells.{cell-rows, rows-first, rows-parts}
-use Rattle.searching.specs.declared.Finding.{Finding}
-use Rattle.searching.specs.declared.Finding.TheVariants.{Found, NotFound, Refused}
+use Rattle.searching.specs.declared.Order.{Order}
 use Rattle.searching.specs.Replayed.{numbers_in}
 use Rattle.searching.specs.Found.{sought_by}
 use Rattle.host.specs.Answers.{answer_cells, Reported}
@@ -44,7 +44,7 @@ pub record SearchedOn (l n : ℕ) (cells files : List ℕ) (t s u : Tables) (bef
 
 -- Laws
 
-pub searched-on : (l n : ℕ) (cells files : List ℕ) (t s u : Tables) (before after : List ℕ) (f : Finding) (r : ℕ) → searched (sought_by f) u ≡ search l n cells files t s
+pub searched-on : (l n : ℕ) (cells files : List ℕ) (t s u : Tables) (before after : List ℕ) (f : code.Result (code.Option Order) Refusal) (r : ℕ) → searched (sought_by f) u ≡ search l n cells files t s
     → Told (sought_by f) before after r → SearchedOn l n cells files t s u before after r
 searched-on l n cells files t s u before after f r e d = record {
   second = ap (λ (x : Searched). x.second) e;
@@ -60,7 +60,7 @@ numbers-length zero c = refl
 numbers-length (suc n) c = ap suc (numbers-length n (c / 8))
 
 pub told-found : (before middle after : List ℕ) (n c r : ℕ) → middle ≡ write_rows set (six_cells 6 n) 0 before → after ≡ write_rows set (order_cells (numbers_in n c)) 6 middle → r ≡ 0
-    → Told (sought_by (Found n c)) before after r
+    → Told (sought_by (Ok (Some (record { loads = n; code = c })))) before after r
 unfolding sought_by sought_cells sought_number
 told-found before middle after n c r e d z = record {
   answer = d
@@ -69,11 +69,11 @@ told-found before middle after n c r e d z = record {
   number = z;
 }
 
-pub told_none : (before after : List ℕ) (r : ℕ) → after ≡ write_rows set (six_cells 7 0) 0 before → r ≡ 0 → Told (sought_by NotFound) before after r
+pub told_none : (before after : List ℕ) (r : ℕ) → after ≡ write_rows set (six_cells 7 0) 0 before → r ≡ 0 → Told (sought_by (Ok None)) before after r
 unfolding sought_by sought_cells sought_number
 told_none before after r d z = record { answer = d; number = z }
 
-pub told-refused : (before after : List ℕ) (w : Refusal) (r : ℕ) → Reported 0 (Denied w) before after r → Told (sought_by (Refused w)) before after r
+pub told-refused : (before after : List ℕ) (w : Refusal) (r : ℕ) → Reported 0 (Denied w) before after r → Told (sought_by (Err w)) before after r
 unfolding sought_by sought_cells sought_number number_of
 told-refused before after w r d = record { answer = d.answer; number = d.number }
 

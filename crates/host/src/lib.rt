@@ -20,7 +20,7 @@ ghost use Rattle.host.specs.Answers.{kind_of, number_given, Reported, Called, Ch
 use definition::numbers::OFFER_LIMIT;
 use definition::{Refusal, Reply, Trial};
 use listing::Constraint;
-use searching::Finding;
+use searching::Order;
 
 // 0 accepted, 1 defined, 2 stepped, 3 ran, 4 denied, 5 swept.
 #[tactic(auto, unfolding(crate::specs::Answers::kind_of))]
@@ -126,20 +126,20 @@ fn report_order(answer: &mut [u32], n: u32, order: u32)
 }
 
 // What a search answers, as much of it as the table has room for.
-fn report_finding(answer: &mut [u32], finding: Finding) -> u8
+fn report_finding(answer: &mut [u32], finding: Result<Option<Order>, Refusal>) -> u8
     ensures { Told (sought_by finding) answer.old answer.new result }
 {
     match finding {
-        Finding::Found(n, order) => {
-            report_kind(answer, FOUND, n);
-            report_order(answer, n, order);
+        Ok(Some(order)) => {
+            report_kind(answer, FOUND, order.loads);
+            report_order(answer, order.loads, order.code);
             0
         }
-        Finding::NotFound => {
+        Ok(None) => {
             report_kind(answer, NONE, 0);
             0
         }
-        Finding::Refused(refusal) => report(answer, 0, Reply::Denied(refusal)),
+        Err(refusal) => report(answer, 0, Reply::Denied(refusal)),
     }
 }
 
