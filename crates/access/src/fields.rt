@@ -110,6 +110,7 @@ fn set_field(
     }
 }
 
+// The two instructions differ in what they do once the field is found, which is all that follows the one search.
 pub fn getfield(
     base: &Base,
     objects: &[u32],

@@ -67,7 +67,7 @@ fn try_define(
     tried.reply
 }
 
-// A record is tried, and what it lists let go.
+// A record is tried, and what it lists let go. Only the call that the tables are lent to is another than a define's, and a closure would have to lend all of them.
 fn try_record(
     counts: &[u16],
     classes: &[u16],

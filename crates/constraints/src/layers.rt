@@ -113,6 +113,7 @@ pub(crate) fn spread(
     let mut low = 0;
     let mut tail = seeds;
     let mut n: u16 = 0;
+    // The queue grows while it is gone through.
     while low < tail {
         if limit <= n {
             return;

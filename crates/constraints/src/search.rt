@@ -79,6 +79,7 @@ pub(crate) fn search(
         groups, stop, from, to, noted, heads, nexts, a, stamp, marks, queue, 0,
     );
     let mut done = 0;
+    // The queue grows while it is gone through.
     while done < tail {
         let group = usize::from(queue[done]);
         tail = expand(

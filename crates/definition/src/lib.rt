@@ -3,7 +3,8 @@
 
 pub mod numbers;
 
-// What a call refuses with: the class it wants, as a loader and a name (word 5), or another word by its number.
+// What a call refuses with: the class it wants, as a loader and a name (word 5), or another word by its number, by which definitions, stores and C programs
+// know it.
 #[derive(Clone, Copy)]
 pub enum Refusal {
     Wanted(u8, u16),
@@ -39,7 +40,7 @@ pub struct Trial {
 }
 
 // What the check of agreement answers: none, where the store agrees, or a pair of loaded requests that breaks agreement, from the one to the
-// other, each by its loader and its name.
+// other, each by its loader and its name. It is no Option: the definitions and their statements speak of it by these words.
 #[derive(Clone, Copy)]
 pub enum Check {
     Agreed,

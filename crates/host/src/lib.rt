@@ -1,6 +1,7 @@
 // The calls of the machine for a host program in C. Each takes the eight tables, the call's numbers or file, and a table of six cells
 // for the answer: the kind of the reply, the refusal's number, three details as a script's line prints them, and the count of steps that ran,
-// or of a tried load the length of the chain that it listed. A search that finds an order fills eight cells more.
+// or of a tried load the length of the chain that it listed. A search that finds an order fills eight cells more. C passes each table as a parameter of its
+// own, and reads some of them alone, so each export lists those that it is lent.
 #![tactic(auto)]
 
 ghost use Rattle.std.specs.Prelude.{◌≡◌, List, [], ◌∷◌, ℕ, ◌-◌, get_or, set};

@@ -24,7 +24,7 @@ struct Cut {
     size: usize,
 }
 
-// How far an input was carried out: bytes read, bytes written, and whether a line couldn't be read.
+// How far an input was carried out: bytes read, bytes written, and whether a line couldn't be read, where both counts stand as well.
 #[derive(Clone, Copy)]
 pub struct Progress {
     pub read: usize,
@@ -183,6 +183,7 @@ pub fn carry_lines(
 {
     let mut read = 0;
     let mut written = 0;
+    // A line has as many bytes read as it is long, and as many written as its answer.
     while 64 <= out.len() - written {
         let Some(cut) = next_line(&input[read..], last) else {
             break;

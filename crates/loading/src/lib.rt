@@ -249,6 +249,7 @@ pub fn try_define(
 }
 
 // An entry tried: what record would answer, and on a clash why, in the list. No table is written. Refusals: 1 3 16 13 4 10 9
+// An entry has no file and no constraints of its own, so it goes by the store's tables, where a class goes by new ones.
 pub fn try_record(
     counts: &[u16],
     classes: &[u16],

@@ -15,6 +15,7 @@ pub(crate) struct Newcomer {
     pub(crate) loader: u8,
     pub(crate) name: u16,
     pub(crate) class: u16,
+    // As the table of superclasses has it: the superclass's number and 1, 0 where there is none.
     pub(crate) above: u8,
     pub(crate) tied: u16,
     pub(crate) noted: u16,
