@@ -1,5 +1,5 @@
 -- A call as code makes it is one of the definition's ten; a define's file, tried or not, is the bytes lent beside it.
-use Rattle.std.specs.Prelude.{◌≡◌, refl, Bool, true, false, List, ℕ, min, ◌-◌, ◌≤◌, length, take, replicate, ltb}
+use Rattle.std.specs.Prelude.{◌≡◌, refl, Bool, true, false, List, ℕ, min, ◌-◌, ◌≤◌, ◌<◌, length, take, replicate, ltb}
 use Rattle.std.proofs.Common.{sym, ap, ◌∙◌, arith, length-take-le, le-ltb, ltb-true, ltb-false}
 use Rattle.std.proofs.lemmas.List.{length-replicate}
 use Rattle.definition.specs.Numbers.{list_limit}
