@@ -30,7 +30,7 @@ moved_more from i w f h =
     rw (k, rows-copy cell-rows xs 0 0 (i - from) w (omega (arith, length-drop from w)), e, past (take (i - from) xs) w i short h, get_or-drop from w (i - from) 0, g)
 
 -- only the bytes that are there count
-moved-end : (from to : ℕ) (w : List ℕ) → length w ≤ to → moved from (length w) w ≡ moved from to w
+pub moved-end : (from to : ℕ) (w : List ℕ) → length w ≤ to → moved from (length w) w ≡ moved from to w
 unfolding moved
 moved-end from to w h =
     let xs = drop from w in

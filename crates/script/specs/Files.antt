@@ -1,6 +1,6 @@
 -- Hexadecimal read byte by byte, and its laws: digits in pairs are a file of the bytes that the pairs stand for, all else is no file.
 use Rattle.std.specs.Prelude.{◌≡◌, ◌↔◌, IsTrue, EachIndex, slice_index, refl, Bool, true, false, ◌&&◌, ◌⊎◌, ◌≢◌, List, [], ◌∷◌, ℕ, zero, suc, ◌+◌, ◌-◌, ◌*◌, ◌/◌, ◌%◌, ◌<◌, ◌≤◌, length, get_or, set, take, drop, leb, ltb, eqb}
-use Rattle.std.proofs.Common.{sym, ap, ◌∙◌, inl, inr, arith, add-one, take_all}
+use Rattle.std.proofs.Common.{sym, ap, ◌∙◌, inl, inr, arith, add-one, drop_of_length-le, take_all}
 use Rattle.std.proofs.lemmas.Bool.{false≢true}
 use Rattle.std.proofs.Math.Option.{Option, none, some}
 use borrow.Author.Tests.{leb-true, le-leb, lt-leb, eqb-true, eqb-false}
@@ -13,6 +13,7 @@ use Rattle.definition.specs.Maybe.{◌>>=◌, need}
 use Rattle.definition.specs.Script.{hex_digit, hex_pairs, file}
 use Rattle.layout.specs.Cells.{cell-rows, rows-copy}
 use Rattle.script.specs.Numbers.{bind-none}
+use Rattle.script.specs.Parts.{next-byte}
 
 -- a digit's value; 16 if it is no digit
 unfoldable pub value_in : Option ℕ → ℕ
@@ -176,6 +177,37 @@ hexes-are s false e = step (all is_hex s) refl
     step : (t : Bool) → all is_hex s ≡ t → false ≡ t
     step true q = e.1 (hexes-every s q)
     step false q = refl
+
+-- the digits from place i on, by the value of the first
+
+low-hex : (b : ℕ) → hex_value b ≤ 15 → is_hex b ≡ true
+unfolding is_some hex_value value_in
+low-hex b h = step (hex_digit b) h
+  where
+    step : (o : Option ℕ) → value_in o ≤ 15 → is_some o ≡ true
+    step none h = absurd (omega arith)
+    step (some d) h = refl
+
+high-hex : (b : ℕ) → 15 < hex_value b → is_hex b ≡ false
+unfolding is_some hex_value value_in
+high-hex b h = step (hex_digit b) refl h
+  where
+    step : (o : Option ℕ) → hex_digit b ≡ o → 15 < value_in o → is_some o ≡ false
+    step none q h = refl
+    step (some d) q h = absurd (omega (arith, digit_low b d q))
+
+module _ (s : List ℕ) (i : ℕ) where
+  pub hexes-bad : i < length s → 15 < hex_value (get_or s i 0) → all is_hex (drop i s) ≡ false
+  unfolding all
+  hexes-bad h v = rw (next-byte s i h, all, high-hex _ v)
+
+  pub hexes-later : i < length s → hex_value (get_or s i 0) ≤ 15 → all is_hex (drop i s) ≡ all is_hex (drop (i + 1) s)
+  unfolding all
+  hexes-later h v = rw (next-byte s i h, all, low-hex _ v)
+
+  pub hexes-end : length s ≤ i → all is_hex (drop i s) ≡ true
+  unfolding all
+  hexes-end h = rw (drop_of_length-le s h)
 
 -- Laws of pairs
 
