@@ -3,7 +3,7 @@
 
 pub mod arguments;
 
-ghost use Rattle.std.specs.Prelude.{◌≡◌, ◌+◌, ◌*◌, ◌<◌, get_or, set};
+ghost use Rattle.std.specs.Prelude.{◌≡◌, ◌++◌, ◌+◌, ◌*◌, ◌<◌, get_or, set, length, take, drop};
 ghost use Rattle.definition.specs.Numbers.{byte_range};
 ghost use Rattle.definition.specs.Instructions.{short_at};
 ghost use Rattle.definition.specs.Answers.{signed, less};
@@ -75,6 +75,16 @@ pub fn put<T: Cell>(t: &mut [T], i: usize, v: T)
 {
     if i < t.len() {
         t[i] = v;
+    }
+}
+
+// A table's cells written over the front of another, as far as both go.
+pub fn copy<T: Copy>(source: &[T], target: &mut [T])
+    ensures { target.new ≡ take (length target.old) source.now ++ drop (length source.now) target.old }
+{
+    let n = source.len().min(target.len());
+    for i in 0..n {
+        target[i] = source[i];
     }
 }
 

@@ -10,7 +10,7 @@ pub fn copy<T: Copy>(source: &[T], target: &mut [T])
     ensures { target.new ≡ copied source.now target.old }
 {
     if source.len() == target.len() {
-        target.copy_from_slice(source);
+        cells::copy(source, target);
     }
 }
 

@@ -19,8 +19,7 @@ pub fn write_cells<T: Copy>(t: &mut [T], from: u16, cells: &[T])
     ensures { t.new ≡ written cells.now from t.old }
 {
     let start = usize::from(from).min(t.len());
-    let n = cells.len().min(t.len() - start);
-    t[start..start + n].copy_from_slice(&cells[..n]);
+    cells::copy(cells, &mut t[start..]);
 }
 
 // The counts and the cache written over the fronts of two tables, of any lengths, with one more entry: its row stands at the old count of entries,

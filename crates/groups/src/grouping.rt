@@ -76,7 +76,7 @@ fn copy_cells(ties: &[u16], whole: &mut [u16])
     requires { length ties.now ≤ length whole.old }
     ensures { whole.new ≡ ties.now ++ drop (length ties.now) whole.old }
 {
-    whole[..ties.len()].copy_from_slice(ties);
+    cells::copy(ties, whole);
 }
 
 // The groups of n rows if no loader is past the last; else nothing is written.
