@@ -1,7 +1,8 @@
 // Pairs of cached requests: whether one breaks agreement.
-ghost use Rattle.std.specs.Prelude.{◌≡◌, [], ◌≤◌, length};
+ghost use Rattle.std.specs.Prelude.{◌≡◌, ℕ, [], false, ◌+◌, ◌<◌, ◌≤◌, length};
 ghost use Rattle.constraints.specs.Agreement.{super_in};
 ghost use Rattle.constraints.specs.Nodes.{place_limit};
+ghost use Rattle.constraints.specs.Search.{Marked};
 ghost use Rattle.constraints.specs.Pairs.{out_marked, in_marked, Judged, Members, Followed, NextMet};
 
 use crate::joining::place;
@@ -99,8 +100,8 @@ fn next_member(groups: &[u16], from: usize, end: usize) -> Option<usize>
     None
 }
 
-// The next request from a place on, before the end, that is marked.
-fn next_followed(marks: &[u16], stamp: u16, from: usize, end: usize) -> Option<usize>
+// The next request from a place on, before the end, that is marked, looked for one by one.
+fn next_single(marks: &[u16], stamp: u16, from: usize, end: usize) -> Option<usize>
     requires { (end ≤ place_limit) × (end ≤ length marks.now) }
     ensures { NextMet [] marks.now stamp Followed from end result }
 {
@@ -110,6 +111,36 @@ fn next_followed(marks: &[u16], stamp: u16, from: usize, end: usize) -> Option<u
         }
     }
     None
+}
+
+// Whether one of the eight from a place on is marked. All are looked at, so that the processor compares them at once.
+fn is_any(marks: &[u16], stamp: u16, from: usize) -> bool
+    requires { (from ≤ place_limit) × (from + 8 ≤ length marks.now) }
+    ensures { result ≡ false → (p : ℕ) → p < from + 8 → from ≤ p → Marked stamp marks.now p → ⊥ }
+{
+    let mut found = false;
+    for i in 0..8 {
+        found |= marks[from + i] == stamp;
+    }
+    found
+}
+
+// The next request from a place on, before the end, that is marked. Eight are looked at in a round, since long chains spend most of their time here.
+fn next_followed(marks: &[u16], stamp: u16, from: usize, end: usize) -> Option<usize>
+    requires { (end ≤ place_limit) × (end ≤ length marks.now) }
+    ensures { NextMet [] marks.now stamp Followed from end result }
+{
+    if end <= from {
+        return None;
+    }
+    let rounds = (end - from) / 8;
+    for round in 0..rounds {
+        let b = from + 8 * round;
+        if is_any(marks, stamp, b) {
+            return next_single(marks, stamp, b, end);
+        }
+    }
+    next_single(marks, stamp, from + 8 * rounds, end)
 }
 
 // The next request from a place on, before the end, that is to be looked at.

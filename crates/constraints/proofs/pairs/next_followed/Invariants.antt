@@ -1,7 +1,7 @@
 -- No place that was passed is marked.
-use Prim.Native.Nat.{ℕ, ◌<◌, ◌≤◌}
+use Prim.Native.Nat.{ℕ, ◌+◌, ◌*◌, ◌<◌, ◌≤◌}
 use Rattle.constraints.specs.Search.{Marked}
 use Rattle.constraints.proofs.pairs.next_followed.Given as goal
 
-abbrev pub invariant-loop-b : goal.invariant-loop-b
-invariant-loop-b l = (p : ℕ) → p < l.b → l.from ≤ p → Marked l.stamp l.marks p → ⊥
+abbrev pub invariant-loop-round : goal.invariant-loop-round
+invariant-loop-round l = (p : ℕ) → p < l.from + 8 * l.round → l.from ≤ p → Marked l.stamp l.marks p → ⊥
