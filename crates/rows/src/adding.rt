@@ -41,9 +41,9 @@ fn subtype_is(subtypes: &[u16], i: usize, loader: u8, low: u16, high: u16) -> bo
     ensures { result ≡ subtype_is loader (note low high) (subtype_at subtypes.now i) }
 {
     let row = i * ROW_CELLS;
-    at(subtypes, row + 1) == low
-        && at(subtypes, row + 2) == high
-        && at(subtypes, row) == u16::from(loader)
+    let first = at(subtypes, row + 1);
+    let second = at(subtypes, row + 2);
+    first == low && second == high && at(subtypes, row) == u16::from(loader)
 }
 
 // A subtype constraint is among the first rows. The last are looked at first: a file's notes repeat those that it posted a moment ago.
