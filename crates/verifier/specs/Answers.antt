@@ -62,10 +62,10 @@ unfoldable pub next_of : P.Option ℕ → TypeState → Onward
 next_of P.None s = accepted
 next_of (P.Some q) s = onto q s
 
--- what a turn answers and leaves of the table of subtype constraints
-abbrev pub stepped : P.Result Turn Rejected → List ℕ → Turning
-stepped (P.Ok t) xs = turning (next_of t.next (types_of t.types)) (noted xs t.count)
-stepped (P.Err r) xs = turning refused (noted xs r.count)
+-- what a turn answers and leaves of the types and of the table of subtype constraints
+abbrev pub stepped : P.Result Turn Rejected → Types → List ℕ → Turning
+stepped (P.Ok t) s xs = turning (next_of t.next (types_of s)) (noted xs t.count)
+stepped (P.Err r) s xs = turning refused (noted xs r.count)
 
 -- Turns without notes: the types that they leave
 

@@ -84,9 +84,9 @@ fn walk(
         let Some(ahead) = pass(maps, run.map, run.place, run.point) else {
             return Err(Rejected { count: total });
         };
-        let before = run.types;
+        types = run.types;
         let turn = turn_at(
-            version, code, maps, places, run.point, res, before, loader, subtypes, total, near,
+            version, code, maps, places, run.point, res, &mut types, loader, subtypes, total, near,
         )?;
         let Some(q) = turn.next else {
             return ended(maps, ahead.number, turn.count);
@@ -94,7 +94,6 @@ fn walk(
         p = q;
         total = turn.count;
         near = turn.near;
-        types = turn.types;
         i = ahead.number;
         place = ahead.place;
         left = run.left - 1;
@@ -117,23 +116,15 @@ fn verify_code(
     requires { Indexed maps.now places.now }
     ensures { answered result subtypes.new ≡ posting loader (method_trace version own s code.now (maps_of maps.now)) (noted subtypes.old count) }
 {
-    let entry = flow_into(
-        maps,
-        places,
-        0,
-        entry_types(own, s),
-        loader,
-        subtypes,
-        count,
-        count,
-    )?;
+    let mut types = entry_types(own, s);
+    let entry = flow_into(maps, places, 0, &mut types, loader, subtypes, count, count)?;
     walk(
         version,
         code,
         maps,
         places,
         s.result,
-        entry.types,
+        types,
         loader,
         subtypes,
         entry.count,

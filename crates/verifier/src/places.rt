@@ -71,7 +71,7 @@ fn walk_stop(
             places,
             p,
             res,
-            types,
+            &mut types,
             0,
             &mut [],
             UNPOSTED,
@@ -83,7 +83,6 @@ fn walk_stop(
             return stop_at_end(maps, ahead.number, code.len());
         };
         p = q;
-        types = turn.types;
         i = ahead.number;
         place = ahead.place;
     }
@@ -102,19 +101,11 @@ fn stop_of(
     requires { Indexed maps.now places.now }
     ensures { result ≡ optional (check_point Check.Types version own s code.now (maps_of maps.now)) }
 {
-    let Ok(entry) = flow_into(
-        maps,
-        places,
-        0,
-        entry_types(own, s),
-        0,
-        &mut [],
-        UNPOSTED,
-        UNPOSTED,
-    ) else {
+    let mut types = entry_types(own, s);
+    let Ok(_) = flow_into(maps, places, 0, &mut types, 0, &mut [], UNPOSTED, UNPOSTED) else {
         return Some(0);
     };
-    walk_stop(version, code, maps, places, s.result, entry.types)
+    walk_stop(version, code, maps, places, s.result, types)
 }
 
 // The code is read up to the first instruction that can't be. Version 1 has no maps, and lacks none.

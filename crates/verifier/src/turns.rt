@@ -16,11 +16,10 @@ use crate::notes::{Posted, Rejected, post_meeting};
 use crate::types::Types;
 use definition::Instruction;
 
-// What a turn leaves: the point at which the walk goes on, none at the code's end, how many rows there are with the turn's notes, the row at which the next
-// flow's are looked for first, and the types.
+// What a turn leaves beside the types, which are lent: the point at which the walk goes on, none at the code's end, how many rows there are with the turn's
+// notes, and the row at which the next flow's are looked for first. The types are long, so they are left in place and not passed on from answer to answer.
 #[derive(Clone, Copy)]
 pub struct Turn {
-    pub types: Types,
     pub next: Option<usize>,
     pub count: u16,
     pub near: u16,
@@ -31,30 +30,29 @@ pub(crate) fn flow_into(
     maps: &[u8],
     places: &[u32],
     q: usize,
-    types: Types,
+    types: &mut Types,
     loader: u8,
     subtypes: &mut [u16],
     count: u16,
     near: u16,
 ) -> Result<Turn, Rejected>
     requires { Indexed maps.now places.now }
-    ensures { (n : ℕ) → stepped result subtypes.new ≡ taking loader (into_turn n (maps_of maps.now) q (types_of types)) (noted subtypes.old count) }
+    ensures { (n : ℕ) → stepped result types.new subtypes.new ≡ taking loader (into_turn n (maps_of maps.now) q (types_of types.old)) (noted subtypes.old count) }
 {
     let Some(place) = find_map(maps, places, q) else {
         return Ok(Turn {
             next: Some(q),
             count,
             near,
-            types,
         });
     };
-    let met = meet_map(maps, place, types, loader, subtypes, count, near)?;
+    let met = meet_map(maps, place, *types, loader, subtypes, count, near)?;
     let mapped = mapped_types(maps, place);
+    *types = mapped;
     Ok(Turn {
         next: Some(q),
         count: met.count,
         near: met.near,
-        types: mapped,
     })
 }
 
@@ -64,19 +62,18 @@ fn start_at(
     maps: &[u8],
     places: &[u32],
     q: usize,
-    types: Types,
+    types: &mut Types,
     count: u16,
     near: u16,
 ) -> Result<Turn, Rejected>
     requires { Indexed maps.now places.now }
-    ensures { (l : ℕ) (t : _) → stepped result t ≡ taking l (start_turn n (maps_of maps.now) q) (noted t count) }
+    ensures { (l : ℕ) (t : _) → stepped result types.new t ≡ taking l (start_turn n (maps_of maps.now) q) (noted t count) }
 {
     if q == n {
         return Ok(Turn {
             next: None,
             count,
             near,
-            types,
         });
     }
     let Some(place) = find_map(maps, places, q) else {
@@ -85,11 +82,11 @@ fn start_at(
     if !is_fitting(maps, place) {
         return Err(Rejected { count });
     }
+    *types = mapped_types(maps, place);
     Ok(Turn {
         next: Some(q),
         count,
         near,
-        types: mapped_types(maps, place),
     })
 }
 
@@ -123,16 +120,16 @@ fn flow(
     places: &[u32],
     i: Instruction,
     q: usize,
-    types: Types,
+    types: &mut Types,
     loader: u8,
     subtypes: &mut [u16],
     count: u16,
     near: u16,
 ) -> Result<Turn, Rejected>
     requires { Indexed maps.now places.now }
-    ensures { stepped result subtypes.new ≡ taking loader (flowing n (maps_of maps.now) i q (types_of types)) (noted subtypes.old count) }
+    ensures { stepped result types.new subtypes.new ≡ taking loader (flowing n (maps_of maps.now) i q (types_of types.old)) (noted subtypes.old count) }
 {
-    let met = flow_to_target(maps, places, i, types, loader, subtypes, count, near)?;
+    let met = flow_to_target(maps, places, i, *types, loader, subtypes, count, near)?;
     if goes_on(i) {
         flow_into(
             maps, places, q, types, loader, subtypes, met.count, met.near,
@@ -150,19 +147,20 @@ fn flow_from(
     i: Instruction,
     q: usize,
     change: Change,
+    types: &mut Types,
     loader: u8,
     subtypes: &mut [u16],
     count: u16,
     near: u16,
 ) -> Result<Turn, Rejected>
     requires { Indexed maps.now places.now }
-    ensures { stepped result subtypes.new ≡ taking loader (turned_to n (maps_of maps.now) i q (change_of (Some change))) (noted subtypes.old count) }
+    ensures { stepped result types.new subtypes.new ≡ taking loader (turned_to n (maps_of maps.now) i q (change_of (Some change))) (noted subtypes.old count) }
 {
-    let types = change.types;
+    *types = change.types;
     let receiver = change.receiver;
     let names = change.names;
     let first = post_meeting(receiver, loader, subtypes, count);
-    let second = post_values(types, change.place, names, loader, subtypes, first);
+    let second = post_values(*types, change.place, names, loader, subtypes, first);
     flow(n, maps, places, i, q, types, loader, subtypes, second, near)
 }
 
@@ -174,25 +172,25 @@ pub(crate) fn turn_at(
     places: &[u32],
     p: usize,
     res: u16,
-    types: Types,
+    types: &mut Types,
     loader: u8,
     subtypes: &mut [u16],
     count: u16,
     near: u16,
 ) -> Result<Turn, Rejected>
     requires { Indexed maps.now places.now }
-    ensures { stepped result subtypes.new ≡ taking loader (turned version code.now (maps_of maps.now) res p (types_of types)) (noted subtypes.old count) }
+    ensures { stepped result types.new subtypes.new ≡ taking loader (turned version code.now (maps_of maps.now) res p (types_of types.old)) (noted subtypes.old count) }
 {
     let Some(read) = decode(version, code, p) else {
         return Err(Rejected { count });
     };
     let i = read.instruction;
-    let Some(change) = change_at(types, i, res) else {
+    let Some(change) = change_at(*types, i, res) else {
         return Err(Rejected { count });
     };
     let end = p + read.size;
     let n = code.len();
     flow_from(
-        n, maps, places, i, end, change, loader, subtypes, count, near,
+        n, maps, places, i, end, change, types, loader, subtypes, count, near,
     )
 }

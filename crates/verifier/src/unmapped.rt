@@ -7,11 +7,15 @@ ghost use Rattle.verifier.specs.Lookups.{unmapped_in};
 
 use crate::lookups::index_maps;
 use crate::places::lack_of;
+use definition::numbers::VERSION_TWO;
 
 // Whether a method of that version lacks a map; version 1 has none, and lacks none.
 pub fn is_unmapped(version: u8, code: &[u8], maps: &[u8]) -> bool
     ensures { (given : ℕ) → result ≡ (leb 2 version && unmapped_from version code.now (maps_of maps.now) given (length code.now) 0 false) }
 {
+    if version < VERSION_TWO {
+        return false;
+    }
     if classfile::map_count(maps) == 0 {
         return lack_of(version, code, maps, &[]).is_some();
     }

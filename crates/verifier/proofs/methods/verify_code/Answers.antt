@@ -5,7 +5,7 @@ use Rattle.verifier.proofs.WalkLaws.{entry-goes, entry-stops}
 use Rattle.verifier.proofs.methods.verify_code.Goals as goal
 
 pub returns-in_err-entry : goal.returns-in_err-entry
-returns-in_err-entry c = rw (exits _ _ c.from_residual.ensures.1) (entry-stops _ _ _ _ _ _ _ _ _ _ c.entry_types.ensures (c.in_err-entry.ensures _) refl)
+returns-in_err-entry c = rw (exits _ _ c.from_residual.ensures.1) (entry-stops _ _ _ _ _ _ _ _ _ _ c.entry_types-types.ensures (c.in_err-entry.ensures _) refl)
 
 pub returns : goal.returns
-returns c = entry-goes _ _ _ _ _ _ _ _ _ _ c.entry_types.ensures (c.in_ok-entry.ensures _) _ _ refl _ c.walk.ensures
+returns c = entry-goes _ _ _ _ _ _ _ _ _ _ c.entry_types-types.ensures (c.in_ok-entry.ensures _) _ _ refl _ c.walk.ensures

@@ -28,14 +28,14 @@ pub returns-in_default-next : goal.returns-in_default-next
 unfolding next_of
 returns-in_default-next c =
     c.ended.ensures _
-    ∙ sym (walk_end _ _ _ _ _ _ _ _ _ _ c.quiet_run-run.ensures.1 _ (passed_to _ _ _ (c.pass.ensures _ _ _ _) c.in-Some.is).0 _ _ c.in_ok-turn.ensures (ap (λ x. next_of x (types_of c.in_ok-turn.turn.types)) c.in_default-next.is))
+    ∙ sym (walk_end _ _ _ _ _ _ _ _ _ _ c.quiet_run-run.ensures.1 _ (passed_to _ _ _ (c.pass.ensures _ _ _ _) c.in-Some.is).0 _ _ c.in_ok-turn.ensures (ap (λ x. next_of x (types_of c.turn_at.new.types)) c.in_default-next.is))
     ∙ ran _ _ _ _ _ c.quiet_run-run.ensures.3 c.loop-left.invariant.1
 
 pub loop-left-preserved : goal.loop-left-preserved
 unfolding next_of
 loop-left-preserved c = (
   (passed_to _ _ _ (c.pass.ensures 0 [] [] 0) c.in-Some.is).1,
-  sym (walk-next _ _ _ _ _ _ _ _ _ _ c.quiet_run-run.ensures.1 _ (passed_to _ _ _ (c.pass.ensures _ _ _ _) c.in-Some.is).0 _ _ c.in_ok-turn.ensures _ _ (ap (λ x. next_of x (types_of c.in_ok-turn.turn.types)) c.in-Some-next.is))
+  sym (walk-next _ _ _ _ _ _ _ _ _ _ c.quiet_run-run.ensures.1 _ (passed_to _ _ _ (c.pass.ensures _ _ _ _) c.in-Some.is).0 _ _ c.in_ok-turn.ensures _ _ (ap (λ x. next_of x (types_of c.turn_at.new.types)) c.in-Some-next.is))
       ∙ ran _ _ _ _ _ c.quiet_run-run.ensures.3 c.loop-left.invariant.1,
 )
 

@@ -34,14 +34,14 @@ unfolding next_of
 returns-in_default-next c =
     c.stop_at_end.ensures
     ∙ ap optional
-    (sym (stop-end _ _ _ _ _ _ _ _ (omega (arith, c.loop-turn-test.true)) _ (passed_to _ _ _ (c.pass.ensures _ _ _ _) c.in-Some.is).0 _ (next-is _ _ _ _ _ c.in-Ok.ensures) (ap (λ x. next_of x (types_of c.in-Ok.turn.types)) c.in_default-next.is))
+    (sym (stop-end _ _ _ _ _ _ _ _ (omega (arith, c.loop-turn-test.true)) _ (passed_to _ _ _ (c.pass.ensures _ _ _ _) c.in-Some.is).0 _ (next-is _ _ _ _ _ c.in-Ok.ensures) (ap (λ x. next_of x (types_of c.turn_at.new.types)) c.in_default-next.is))
     ∙ c.loop-turn.invariant.rest)
 
 pub loop-turn-preserved : goal.loop-turn-preserved
 unfolding next_of
 loop-turn-preserved c = record {
   at = (passed_to _ _ _ (c.pass.ensures 0 [] [] 0) c.in-Some.is).1;
-  rest = sym (stop-next _ _ _ _ _ _ _ _ (omega (arith, c.loop-turn-test.true)) _ (passed_to _ _ _ (c.pass.ensures _ _ _ _) c.in-Some.is).0 _ (next-is _ _ _ _ _ c.in-Ok.ensures) _ _ _ (omega (arith, c.loop-turn-test.true)) (ap (λ x. next_of x (types_of c.in-Ok.turn.types)) c.in-Some-next.is))
+  rest = sym (stop-next _ _ _ _ _ _ _ _ (omega (arith, c.loop-turn-test.true)) _ (passed_to _ _ _ (c.pass.ensures _ _ _ _) c.in-Some.is).0 _ (next-is _ _ _ _ _ c.in-Ok.ensures) _ _ _ (omega (arith, c.loop-turn-test.true)) (ap (λ x. next_of x (types_of c.turn_at.new.types)) c.in-Some-next.is))
       ∙ c.loop-turn.invariant.rest;
 }
 

@@ -19,7 +19,7 @@ returns-then-not-is_fitting c =
     (sym c.is_fitting.ensures ∙ c.if-not-is_fitting.true))
 
 pub mapped_types-requires : goal.mapped_types-requires
-mapped_types-requires c = fits-few c.args.types _ _ (sym c.is_fitting.ensures ∙ c.if-not-is_fitting.false)
+mapped_types-requires c = fits-few c.args.types.now _ _ (sym c.is_fitting.ensures ∙ c.if-not-is_fitting.false)
 
 pub returns : goal.returns
 unfolding next_of
